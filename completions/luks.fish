@@ -204,6 +204,7 @@ complete -c luks -n '__fish_seen_subcommand_from rebuild' -l cipher -x -a 'aes-x
 complete -c luks -n '__fish_seen_subcommand_from rebuild' -l hash -x -a 'sha1 sha256 sha512' -d 'LUKS1: the hash, as sha256'
 complete -c luks -n '__fish_seen_subcommand_from rebuild' -l key-bytes -x -a '16 32 64' -d 'LUKS1: how long the volume key is, 1 to 128'
 complete -c luks -n '__fish_seen_subcommand_from rebuild' -l payload -x -d 'LUKS1: where the data begins, in sectors of 512'
+complete -c luks -n '__fish_seen_subcommand_from rebuild' -l sector-size -x -a '512 1024 2048 4096' -d 'LUKS2: how long a data sector is, 512 to 4096'
 complete -c luks -n '__fish_seen_subcommand_from rebuild' -l passphrase -r -F -d "Try what isn't given of LUKS1 till this opens it"
 complete -c luks -n '__fish_seen_subcommand_from rebuild' -l passphrase-line -r -F -d 'Instead, a file whose first line is taken'
 complete -c luks -n '__fish_seen_subcommand_from rebuild' -l memory -x -d 'The MiB that Argon2 may take'
@@ -215,6 +216,7 @@ complete -c luks -n '__fish_seen_subcommand_from rebuild' -l quiet -d 'No hints 
 
 complete -c luks -n __fish_use_subcommand -a find -d 'Finds the volumes of a disk by any sign left of them'
 complete -c luks -n '__fish_seen_subcommand_from find' -F
+complete -c luks -n '__fish_seen_subcommand_from find' -l fragments -d 'Find the keyslots, digests and segments that stand whole instead'
 complete -c luks -n '__fish_seen_subcommand_from find' -l offset -x -d 'The byte of the device where the search begins'
 complete -c luks -n '__fish_seen_subcommand_from find' -l length -x -d 'How many bytes are searched'
 complete -c luks -n '__fish_seen_subcommand_from find' -l quiet -d 'No hints on standard error'

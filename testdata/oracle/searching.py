@@ -459,11 +459,12 @@ def name_before(data, start):
 
 def found_fragments(source):
     """The first of each kind in the first bytes of the source, of segments those that encrypt: where each begins, its number, if one stands before it, and its
-    text."""
+    text. What stands again with the same number, as in both copies, counts once."""
     them = {kind: [] for kind in SOME}
     for start, kind, number, text in fragments(source[:FRONT + LONGEST]):
         counts = start < FRONT and (kind != "segment" or reader.read_value(text)["type"] == "crypt")
-        if counts and len(them[kind]) < MOST_FRAGMENTS:
+        again = any(it[1:] == (number, text) for it in them[kind])
+        if counts and not again and len(them[kind]) < MOST_FRAGMENTS:
             them[kind].append((start, number, text))
     return them
 

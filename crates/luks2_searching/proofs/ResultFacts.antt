@@ -23,6 +23,16 @@ none_so (Ok (Some x)) X Y so p = tt
 none_so (Ok None) X Y so p = so p
 none_so (Err f) X Y so p = tt
 
+-- whatever is found
+pub none_all : {A F : Type 0} (r : Result (Option A) F) (X : Type 0) → X → IfOk r (λ o. IfNone o X)
+none_all (Ok (Some a)) X x = tt
+none_all (Ok None) X x = x
+none_all (Err f) X x = tt
+
+pub some_so : {A : Type 0} (o : Option A) (P Q : A → Type 0) → ((x : A) → P x → Q x) → IfSome o P → IfSome o Q
+some_so (Some x) P Q so p = so x p
+some_so None P Q so p = tt
+
 -- of an answer that is yes
 pub yes_so : {F : Type 0} (r : Result Bool F) (X : Type 0) → IfOk r (λ is. IsTrue is ↔ X) → IfOk r (λ is. is ≡ true → X)
 yes_so (Ok b) X same = λ yes. same.0 yes

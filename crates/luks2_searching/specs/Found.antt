@@ -1,11 +1,13 @@
 -- Metadata of LUKS2 that was found in the volume `v`, near to that of a copy, by which the passphrase `p` opens a keyslot.
-use Rattle.std.specs.Prelude.{◌≡◌, ℕ, ◌+◌, ◌<◌, ◌≤◌, ◌^◌, List, length}
+use Rattle.std.specs.Prelude.{◌≡◌, ℕ, ◌+◌, ◌<◌, ◌≤◌, ◌^◌, List, length, Option}
 use Rattle.luks_rebuilding.specs.Candidates.{json_of, IsBegun, IsPlace}
 use Rattle.luks_rebuilding.specs.declared.place.Place.{Place}
 use Rattle.luks_slot.specs.declared.allowed.Allowed.{Allowed}
 use Rattle.luks_vouching.specs.Cut.{cut, text_end}
 use Rattle.luks_trials.specs.Turned.{turned}
 use Rattle.luks2_searching.specs.Digests.{IsDigestTurned}
+use Rattle.luks_piecing.specs.Pieced.{IsMadeOf}
+use Rattle.luks_piecing.specs.declared.given.GivenSegment.{GivenSegment}
 use Rattle.luks_trials.specs.Metadata.{AddsNone, OpensAt, OpensNone}
 use Rattle.luks2_searching.specs.Mixed.{few_bytes, DifferAt, IsMixed}
 use Rattle.luks2_searching.specs.declared.found.Change2.{Change2}
@@ -42,19 +44,29 @@ pub record IsOfCopies (v : List ℕ) (place : Place) (new : List ℕ) : Type 0 w
   pub second : IsPlace (length v) (second_place place.size)
   pub composed : IsOfBoth (area_of v (first_place place.size)) (area_of v (second_place place.size)) new
 
--- the area is that of the copy at the place but for the change, for the keyslot `n`
-abbrev pub IsChanged2 : List ℕ → Place → ℕ → Change2 → List ℕ → Type 0
-IsChanged2 v place n change.Nothing new = new ≡ area_of v place
-IsChanged2 v place n (change.Bit at bit) new = IsBitTurned (area_of v place) at bit new
-IsChanged2 v place n (change.Digest bits) new = IsDigestTurned (area_of v place) n bits new
-IsChanged2 v place n change.Mixed new = IsOfCopies v place new
-IsChanged2 v place n (change.Fragments keyslot digest segment) new = ⊥
+-- a header of this size is the shortest
+abbrev pub shortest : ℕ
+shortest = 16384
 
--- metadata that was found: it is near to that of the copy, and by it the keyslot opens
-pub record IsFound2 (allowed : Allowed) (v p : List ℕ) (f : Found2) : Type 0 where
+-- the place is that of the first copy of the shortest header, and the area is made of objects that stand in the volume; the segment is the given one,
+-- if one is
+pub record IsOfFragments (v : List ℕ) (given : Option GivenSegment) (place : Place) (n keyslot digest : ℕ) (segment : Option ℕ) (new : List ℕ) : Type 0 where
+  pub first : place ≡ first_place shortest
+  pub made : IsMadeOf v given n keyslot digest segment new
+
+-- the area is that of the copy at the place but for the change, for the keyslot `n`; or it is made of fragments
+abbrev pub IsChanged2 : List ℕ → Option GivenSegment → Place → ℕ → Change2 → List ℕ → Type 0
+IsChanged2 v given place n change.Nothing new = new ≡ area_of v place
+IsChanged2 v given place n (change.Bit at bit) new = IsBitTurned (area_of v place) at bit new
+IsChanged2 v given place n (change.Digest bits) new = IsDigestTurned (area_of v place) n bits new
+IsChanged2 v given place n change.Mixed new = IsOfCopies v place new
+IsChanged2 v given place n (change.Fragments keyslot digest segment) new = IsOfFragments v given place n keyslot digest segment new
+
+-- metadata that was found: it is near to that of the copy, or made of fragments, and by it the keyslot opens
+pub record IsFound2 (allowed : Allowed) (given : Option GivenSegment) (v p : List ℕ) (f : Found2) : Type 0 where
   pub place : IsPlace (length v) f.place
   pub long : 4096 + length f.json.items ≡ f.place.size
-  pub changed : IsChanged2 v f.place f.slot f.change f.json.items
+  pub changed : IsChanged2 v given f.place f.slot f.change f.json.items
   pub opens : OpensAt allowed v p f.json.items f.slot
 
 -- ---- where nothing is found
@@ -73,6 +85,10 @@ pub record HasNone2 (allowed : Allowed) (v p : List ℕ) : Type 0 where
       → IsOfBoth (area_of v (first_place size)) (area_of v (second_place size)) new → OpensNone allowed v p new
 
 -- ---- of one area, by its copy's place, and of one step of the search: words of private contracts
+
+-- it was found whatever segment is given
+abbrev pub IsFoundNear : Allowed → List ℕ → List ℕ → Found2 → Type 0
+IsFoundNear allowed v p f = (given : Option GivenSegment) → IsFound2 allowed given v p f
 
 -- the area is that which stands but for the change
 abbrev pub IsNear2 : List ℕ → ℕ → Change2 → List ℕ → Type 0

@@ -16,9 +16,7 @@ use luks_meta::Meta;
 use luks_reading::luks2_plan;
 use luks_rebuilding::Place;
 use luks_slot::SlotPlan;
-use luks_trials::{
-    Progress, SearchFault, Tally, Trying, differing_bits, digest_of_plan,
-};
+use luks_trials::{Progress, SearchFault, Tally, Trying, differing_bits, digest_of_plan};
 use std::alloc::{AllocError, Global};
 
 /// A digest is taken for the key's where it differs in no more bits.

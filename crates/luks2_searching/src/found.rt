@@ -26,8 +26,8 @@ pub enum Change2 {
         keyslot: u64,
         /// The digest.
         digest: u64,
-        /// The segment.
-        segment: u64,
+        /// The segment: none where it is given.
+        segment: Option<u64>,
     },
 }
 
@@ -36,7 +36,8 @@ pub enum Change2 {
 pub struct Found2 {
     /// Its JSON area, as long as that of the place.
     pub json: Vec<u8>,
-    /// The place of the copy that it was found at: the first one, where it is composed of both.
+    /// The place of the copy that it was found at: the first one, where it is composed of both, and that of the shortest
+    /// header, where it is made of fragments.
     pub place: Place,
     /// The keyslot, 0 to 31.
     pub slot: u8,

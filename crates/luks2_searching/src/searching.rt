@@ -1,18 +1,20 @@
-//! The search in LUKS2 metadata: as it stands, then in bytes of both copies, then each bit of its text.
+//! The search in LUKS2 metadata: as it stands, then in bytes of both copies, then each bit of its text, then in fragments.
 ghost use Rattle.std.specs.Prelude.{◌≡◌, ◌+◌, ◌-◌, ◌^◌, ◌<◌, ◌⊎◌, ℕ, length, IfErr, IfNone, IfOk, IfSome};
 ghost use Rattle.luks_area.specs.Device.{CountsFailure, IsUnchanged};
 ghost use Rattle.luks2_header.specs.Sizes.{IsListed};
 ghost use Rattle.luks_rebuilding.specs.Candidates.{IsBegun, IsPlace};
 ghost use Rattle.luks_trials.specs.Faults.{is_search_failure, IsCutShort};
 ghost use Rattle.luks_trials.specs.Tallies.{Counts};
-ghost use Rattle.luks2_searching.specs.Found.{area_of, first_place, second_place, HasNone2, HasNoneBy, HasNoneOfBoth, HasNoneStanding, HasNoneTurned, IsFound2};
+ghost use Rattle.luks2_searching.specs.Found.{area_of, first_place, second_place, HasNone2, HasNoneBy, HasNoneOfBoth, HasNoneStanding, HasNoneTurned, IsFound2, IsFoundNear};
 
 use crate::bits::by_bits;
 use crate::copies::begun_area;
 use crate::found::Found2;
+use crate::fragments::by_fragments;
 use crate::mixed::by_mixing;
 use crate::standing::as_it_stands;
 use luks_area::Device;
+use luks_piecing::GivenSegment;
 use luks_rebuilding::Place;
 use luks_trials::{Progress, SearchFault, Tally, Trying};
 use std::alloc::Global;
@@ -33,17 +35,51 @@ pub(crate) enum Step {
     Bits,
 }
 
-/// The first metadata near to that of a copy by which the passphrase opens a keyslot, or None where none does, of the
-/// copies at the places that the standard lists whose JSON area begins with a brace: as it stands; with a digest that
-/// differs in at most 8 bits; composed of the bytes of both copies of one size, where these differ in at most 16; with one
-/// bit of its text turned. What stands behind an area's text is taken as zeros. The source never changes. That a
-/// digest in reach is found is in no clause.
+/// The first metadata by which the passphrase opens a keyslot, or None where none does: near to that of a copy at the places
+/// that the standard lists whose JSON area begins with a brace; or made of a keyslot and a digest that stand whole in
+/// the first 8 MiB, and of the segment that is given, or else of one that stands there.
+///
+/// Near to that of a copy is what stands; what has a digest that differs in at most 8 bits; what is composed of the bytes
+/// of both copies of one size, where these differ in at most 16; and what has one bit of its text turned. What stands
+/// behind an area's text is taken as zeros. The source never changes. That a digest in reach is found is in no clause, nor
+/// that a keyslot which stands whole is.
 ///
 /// `tally` counts each derivation before it is made: `Spent` comes only where as many were made as may be.
 /// `Device` comes exactly where a device call failed. A keyslot by more than 2^26 iterations, or of more than
 /// 2^16 stripes, isn't tried. Takes memory for the JSON areas of both copies of one size, for that which is found, for two
-/// metadata, and what is allowed to Argon2.
+/// metadata, for 1 MiB of the source, and what is allowed to Argon2.
 pub fn search2<D: Device, P: Progress>(
+    alloc: Global,
+    source: &mut D,
+    given: &Option<GivenSegment<'_>>,
+    trying: &Trying<'_>,
+    tally: &mut Tally,
+    progress: &mut P,
+) -> Result<Option<Found2>, SearchFault>
+    requires passphrase { 0 < trying.now.allowed.memory
+        → length trying.now.passphrase.now < 2 ^ 32 }
+    requires room { D.failed source.old + 1 < 2 ^ 64 }
+    ensures unchanged { IsUnchanged D.tells D.size D.bytes D.unsettled source.old source.new }
+    ensures count { CountsFailure is_search_failure result
+        (D.failed source.old) (D.failed source.new) }
+    ensures counts { Counts tally.old tally.new }
+    ensures cut { IfErr result (IsCutShort tally.new) }
+    ensures there { IfOk result (λ found. IfSome found (λ f.
+        IsPlace (D.size source.old) f.place × (4096 + length f.json.items ≡ f.place.size))) }
+    ensures found { D.tells → IfOk result (λ found. IfSome found
+        (IsFound2 trying.now.allowed given.now (D.bytes source.old) trying.now.passphrase.now)) }
+    ensures none { D.tells → IfOk result (λ found. IfNone found
+        (HasNone2 trying.now.allowed (D.bytes source.old) trying.now.passphrase.now)) }
+{
+    let near = near_copies(alloc, source, trying, tally, progress)?;
+    if near.is_some() {
+        return Ok(near);
+    }
+    by_fragments(alloc, source, given, trying, tally, progress)
+}
+
+/// The first that is near to what stands of a copy: what is tried of each copy, one after the other.
+fn near_copies<D: Device, P: Progress>(
     alloc: Global,
     source: &mut D,
     trying: &Trying<'_>,
@@ -61,7 +97,7 @@ pub fn search2<D: Device, P: Progress>(
     ensures there { IfOk result (λ found. IfSome found (λ f.
         IsPlace (D.size source.old) f.place × (4096 + length f.json.items ≡ f.place.size))) }
     ensures found { D.tells → IfOk result (λ found. IfSome found
-        (IsFound2 trying.now.allowed (D.bytes source.old) trying.now.passphrase.now)) }
+        (IsFoundNear trying.now.allowed (D.bytes source.old) trying.now.passphrase.now)) }
     ensures none { D.tells → IfOk result (λ found. IfNone found
         (HasNone2 trying.now.allowed (D.bytes source.old) trying.now.passphrase.now)) }
 {
@@ -96,7 +132,7 @@ fn by_step<D: Device, P: Progress>(
     ensures there { IfOk result (λ found. IfSome found (λ f.
         IsPlace (D.size source.old) f.place × (4096 + length f.json.items ≡ f.place.size))) }
     ensures found { D.tells → IfOk result (λ found. IfSome found
-        (IsFound2 trying.now.allowed (D.bytes source.old) trying.now.passphrase.now)) }
+        (IsFoundNear trying.now.allowed (D.bytes source.old) trying.now.passphrase.now)) }
     ensures none { D.tells → IfOk result (λ found. IfNone found ((size : ℕ) → IsListed size
         → HasNoneBy trying.now.allowed (D.bytes source.old) trying.now.passphrase.now step size)) }
 {
@@ -131,7 +167,7 @@ fn by_size<D: Device, P: Progress>(
     ensures there { IfOk result (λ found. IfSome found (λ f.
         IsPlace (D.size source.old) f.place × (4096 + length f.json.items ≡ f.place.size))) }
     ensures found { D.tells → IfOk result (λ found. IfSome found
-        (IsFound2 trying.now.allowed (D.bytes source.old) trying.now.passphrase.now)) }
+        (IsFoundNear trying.now.allowed (D.bytes source.old) trying.now.passphrase.now)) }
     ensures none { D.tells → IfOk result (λ found. IfNone found (HasNoneBy trying.now.allowed
         (D.bytes source.old) trying.now.passphrase.now step size)) }
 {
@@ -163,7 +199,7 @@ fn standing_by_size<D: Device, P: Progress>(
     ensures there { IfOk result (λ found. IfSome found (λ f.
         IsPlace (D.size source.old) f.place × (4096 + length f.json.items ≡ f.place.size))) }
     ensures found { D.tells → IfOk result (λ found. IfSome found
-        (IsFound2 trying.now.allowed (D.bytes source.old) trying.now.passphrase.now)) }
+        (IsFoundNear trying.now.allowed (D.bytes source.old) trying.now.passphrase.now)) }
     ensures none { D.tells → IfOk result (λ found. IfNone found (HasNoneBy trying.now.allowed
         (D.bytes source.old) trying.now.passphrase.now Step.Standing size)) }
 {
@@ -198,7 +234,7 @@ fn standing_in<D: Device, P: Progress>(
     ensures there { IfOk result (λ found. IfSome found (λ f.
         IsPlace (D.size source.old) f.place × (4096 + length f.json.items ≡ f.place.size))) }
     ensures found { D.tells → IfOk result (λ found. IfSome found
-        (IsFound2 trying.now.allowed (D.bytes source.old) trying.now.passphrase.now)) }
+        (IsFoundNear trying.now.allowed (D.bytes source.old) trying.now.passphrase.now)) }
     ensures none { D.tells → IfOk result (λ found. IfNone found (HasNoneStanding trying.now.allowed
         (D.bytes source.old) trying.now.passphrase.now place)) }
 {
@@ -229,7 +265,7 @@ fn bits_by_size<D: Device, P: Progress>(
     ensures there { IfOk result (λ found. IfSome found (λ f.
         IsPlace (D.size source.old) f.place × (4096 + length f.json.items ≡ f.place.size))) }
     ensures found { D.tells → IfOk result (λ found. IfSome found
-        (IsFound2 trying.now.allowed (D.bytes source.old) trying.now.passphrase.now)) }
+        (IsFoundNear trying.now.allowed (D.bytes source.old) trying.now.passphrase.now)) }
     ensures none { D.tells → IfOk result (λ found. IfNone found (HasNoneBy trying.now.allowed
         (D.bytes source.old) trying.now.passphrase.now Step.Bits size)) }
 {
@@ -264,7 +300,7 @@ fn bits_in<D: Device, P: Progress>(
     ensures there { IfOk result (λ found. IfSome found (λ f.
         IsPlace (D.size source.old) f.place × (4096 + length f.json.items ≡ f.place.size))) }
     ensures found { D.tells → IfOk result (λ found. IfSome found
-        (IsFound2 trying.now.allowed (D.bytes source.old) trying.now.passphrase.now)) }
+        (IsFoundNear trying.now.allowed (D.bytes source.old) trying.now.passphrase.now)) }
     ensures none { D.tells → IfOk result (λ found. IfNone found (HasNoneTurned trying.now.allowed
         (D.bytes source.old) trying.now.passphrase.now place)) }
 {
@@ -295,7 +331,7 @@ fn mixed_by_size<D: Device, P: Progress>(
     ensures there { IfOk result (λ found. IfSome found (λ f.
         IsPlace (D.size source.old) f.place × (4096 + length f.json.items ≡ f.place.size))) }
     ensures found { D.tells → IfOk result (λ found. IfSome found
-        (IsFound2 trying.now.allowed (D.bytes source.old) trying.now.passphrase.now)) }
+        (IsFoundNear trying.now.allowed (D.bytes source.old) trying.now.passphrase.now)) }
     ensures none { D.tells → IfOk result (λ found. IfNone found (HasNoneBy trying.now.allowed
         (D.bytes source.old) trying.now.passphrase.now Step.Mixed size)) }
 {
@@ -330,7 +366,7 @@ fn mixed_with<D: Device, P: Progress>(
     ensures there { IfOk result (λ found. IfSome found (λ f.
         IsPlace (D.size source.old) f.place × (4096 + length f.json.items ≡ f.place.size))) }
     ensures found { D.tells → IfOk result (λ found. IfSome found
-        (IsFound2 trying.now.allowed (D.bytes source.old) trying.now.passphrase.now)) }
+        (IsFoundNear trying.now.allowed (D.bytes source.old) trying.now.passphrase.now)) }
     ensures none { D.tells → IfOk result (λ found. IfNone found
         (IsBegun (D.bytes source.old) (second_place size) → HasNoneOfBoth trying.now.allowed
         (D.bytes source.old) trying.now.passphrase.now first.now

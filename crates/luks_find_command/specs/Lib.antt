@@ -1,4 +1,5 @@
 pub mod FindAnswers
+pub mod Fragments
 pub mod Lines
 pub mod SameUuids
 pub mod Searches

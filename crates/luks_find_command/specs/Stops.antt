@@ -2,12 +2,18 @@
 use Rattle.std.specs.Prelude.{◌≡◌, ℕ, ◌+◌, ◌<◌, ◌≤◌}
 use Rattle.luks_finding.specs.declared.find_fault.FindFault.{FindFault}
 use Rattle.luks_finding.specs.declared.find_fault.FindFault.TheVariants as fault
+use Rattle.luks_seeking.specs.declared.fault.SeekFault.{SeekFault}
+use Rattle.luks_seeking.specs.declared.fault.SeekFault.TheVariants as seek
 use Rattle.luks_find_command.specs.declared.stop.Stop.{Stop}
 use Rattle.luks_find_command.specs.declared.stop.Stop.TheVariants.{Device, Memory, Unprinted}
 
 abbrev pub stop_of : FindFault → Stop
 stop_of fault.Memory = Memory
 stop_of fault.Device = Device
+
+abbrev pub stop_of_seek : SeekFault → Stop
+stop_of_seek seek.Memory = Memory
+stop_of_seek seek.Device = Device
 
 -- by which count of failures a search stopped: that of the device went from `failed` to `failed_now`, that of the printer
 -- from `prints` to `prints_now`

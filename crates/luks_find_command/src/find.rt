@@ -84,9 +84,13 @@ fn find_on<D: Device, P: Printer, E: Write, G: Progress>(
     (device, status)
 }
 
-/// Prints the last line of a search that found so many volumes or stopped, where it has one; answers
+/// Prints the last line of a search that found so many or stopped, where it has one; answers
 /// the exit status.
-fn finish<P: Printer, E: Write>(ended: Result<u64, Stop>, out: &mut P, err: &mut E) -> u8
+pub(crate) fn finish<P: Printer, E: Write>(
+    ended: Result<u64, Stop>,
+    out: &mut P,
+    err: &mut E,
+) -> u8
     requires { MayEnd ended (P.failures out.old) }
     ensures { Finishes ended (P.failures out.old) (P.failures out.new)
         (P.printed out.old) (P.printed out.new) result }
@@ -97,7 +101,7 @@ fn finish<P: Printer, E: Write>(ended: Result<u64, Stop>, out: &mut P, err: &mut
     }
 }
 
-/// Says how many volumes were found, and prints a line where there is none; answers the exit status.
+/// Says how many were found, and prints a line where there is none; answers the exit status.
 fn end_all<P: Printer, E: Write>(found: u64, out: &mut P, err: &mut E) -> u8
     requires { P.failures out.old + 1 < 2 ^ 64 }
     ensures { EndsAll found (P.failures out.old) (P.failures out.new)

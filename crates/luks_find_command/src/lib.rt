@@ -3,6 +3,7 @@
 
 mod check_at;
 pub mod find;
+pub mod fragments;
 mod lines;
 mod met;
 mod notes;

@@ -1,8 +1,8 @@
 -- What `rebuild` answers where what is damaged is sought by a passphrase, by what it met.
-use Rattle.std.proofs.Common.{◌≡◌, ◌≢◌, ◌↔◌, ◌⊎◌, List, ℕ, ◌+◌, ◌<◌, Bool, true, false, Option, Some, None, IfSome, IfNone, Result, Ok, IfOk, IsTrue, refl, sym, subst, inl, inr, length, ◌∙◌}
+use Rattle.std.proofs.Common.{◌≡◌, ◌≢◌, ◌↔◌, ◌⊎◌, List, ℕ, ◌+◌, ◌<◌, Bool, true, false, Option, Some, None, IfSome, IfNone, Result, Ok, IfOk, IsTrue, refl, sym, subst, inl, inr, IfErr, Err, length, ◌∙◌}
+use Rattle.std.specs.Prelude.{⊤}
 use Rattle.luks_area.specs.Device.{count_after, CountsFailure}
 use Rattle.luks_writing.specs.TwoDevices.{CountsAfter, IsOneFailure}
-use Rattle.luks_slot.specs.declared.allowed.Allowed.{Allowed}
 use Rattle.luks_reading.specs.Answer.{opens}
 use Rattle.luks_rebuilding.specs.Making.{source_with, IsMakeable as IsMakeable2, IsAnsweredMaking as IsAnsweredMaking2}
 use Rattle.luks_rebuilding.specs.RebuildFaults.{is_rebuild_failure as is_rebuild2_failure}
@@ -18,12 +18,13 @@ use Rattle.luks1_rebuilding.specs.Openings.{OpensNoneBelow}
 use Rattle.luks1_rebuilding.specs.TrialFaults.{IsTrialFault}
 use Rattle.luks1_rebuilding.specs.declared.rebuild_fault.Rebuild1Fault.{Rebuild1Fault}
 use Rattle.luks1_rebuilding.specs.declared.rebuild_fault.Rebuild1Fault.TheVariants as fault1
-use Rattle.luks_trials.specs.Faults.{is_search_failure}
+use Rattle.luks_trials.specs.Faults.{is_search_failure, IsCutShort, IsCutWithoutMemory}
+use Rattle.luks_trials.specs.declared.tally.Tally.{Tally}
 use Rattle.luks_searching.specs.Found1.{IsFound1, HasNone1}
 use Rattle.luks_trials.specs.declared.fault.SearchFault.{SearchFault}
 use Rattle.luks_trials.specs.declared.fault.SearchFault.TheVariants as search_fault
 use Rattle.luks_searching.specs.declared.searching1.Found1.{Found1}
-use Rattle.luks2_searching.specs.Found.{HasNone2, IsFound2}
+use Rattle.luks2_searching.specs.Found.{HasNone2}
 use Rattle.luks2_searching.specs.declared.found.Found2.{Found2}
 use Rattle.luks_request.specs.Meant.{meant_by}
 use Rattle.luks_request.specs.declared.rebuilding.Rebuilding.{Rebuilding}
@@ -34,7 +35,7 @@ use Rattle.luks_commands.specs.Answer.{rebuild_fault_answer, rebuild1_fault_answ
 use Rattle.luks_header_commands.specs.FoundHeader.{IsHeadedAnswer, IsHeadedHeader, KeepsHeaded, OpensMade, OpensWhereDone}
 use Rattle.luks_header_commands.specs.FoundMetadata.{IsMadeAnswer2, IsMadeHeader2, KeepsMade2}
 use Rattle.luks_header_commands.specs.Rebuilding.{given_of, IsLuks1Answer}
-use Rattle.luks_header_commands.specs.Searching.{allowed_by, search_fault_answer, cut_short, no_memory, search_failed, by_combinations, broken_off, found_near, none_near, broken_off2, found_near2, none_near2, kept_luks1, kept_luks2, searched_luks1, searched_luks2, version_unread, BrokenOff, IsRest1, IsRest2, IsSearchedRest, SearchedAnswer, SearchedAnswer1, SearchedAnswer2, SeeksLuks1}
+use Rattle.luks_header_commands.specs.Searching.{allowed_by, search_fault_answer, cut_short, no_memory, search_failed, by_combinations, broken_off, found_near, none_near, broken_off2, found_near2, none_near2, kept_luks1, kept_luks2, searched_luks1, searched_luks2, version_unread, BrokenOff, IsFoundBy, IsRest1, IsRest2, IsSearchedRest, MayEnd, SearchedAnswer, SearchedAnswer1, SearchedAnswer2, SeeksLuks1}
 use Rattle.luks_header_commands.specs.Target.{IsLater, NoneFailed, Pair}
 use Rattle.luks_header_commands.specs.Tried.{no_header, none_open, one_opens, trial_failed, IsTriedRest, TriedAnswer}
 use Rattle.luks_header_commands.specs.Trying.{TriedBy}
@@ -46,6 +47,14 @@ use Rattle.luks_header_commands.proofs.TryingFacts.{tried_later}
 pub ok_some : {A E : Type 0} (says : A → Type 0) (r : Result (Option A) E) (o : Option A) (found : A) → r ≡ Ok o → o ≡ Some found
     → IfOk r (λ x. IfSome x says) → says found
 ok_some {A} {E} says r o found is some told = subst (λ (x : Option A). IfSome x says) some (subst (λ (x : Result (Option A) E). IfOk x (λ y. IfSome y says)) is told)
+
+pub some_is : {A : Type 0} (P : A → Type 0) (o : Option A) (found : A) → o ≡ Some found → IfSome o P → P found
+some_is {A} P o found some told = subst (λ (x : Option A). IfSome x P) some told
+
+pub found_so : {A F : Type 0} (r : Result (Option A) F) (P Q : A → Type 0) → ((x : A) → P x → Q x) → IfOk r (λ o. IfSome o P) → IfOk r (λ o. IfSome o Q)
+found_so {A} {F} (Ok (Some x)) P Q so p = so x p
+found_so {A} {F} (Ok None) P Q so p = tt
+found_so {A} {F} (Err f) P Q so p = tt
 
 -- the search in a LUKS1 header, of the same volume
 pub near_of : (v v' p : List ℕ) (g : Given) (o : Option Found1) (found : Found1) → v' ≡ v → o ≡ Some found → IfSome o (IsFound1 v' g p) → IsFound1 v g p found
@@ -139,24 +148,39 @@ made2_later tells json place given random d e answer.NoMemory later said = (
 )
 made2_later tells json place given random d e a later said = absurd said
 
-pub near_later2 : (tells : Type 0) (allowed : Allowed) (given : Option (List ℕ)) (p random : List ℕ) (d e : Pair) (a : Answer) (found : Found2) → IsLater tells d e
-    → (tells → IsFound2 allowed e.volume p found) → IsMadeAnswer2 tells found.json.items found.place given random d a
-    → SearchedAnswer2 tells allowed given p random e a
-near_later2 tells allowed given p random d e a found later near said =
-    found_near2 found near (made2_later tells found.json.items found.place given random d e a later said)
+pub near_later2 : (tells : Type 0) (r : Rebuilding) (p random : List ℕ) (d e : Pair) (a : Answer) (found : Found2) → IsLater tells d e
+    → (tells → IsFoundBy r e.volume p found) → IsMadeAnswer2 tells found.json.items found.place (given_of r) random d a
+    → SearchedAnswer2 tells r p random e a
+near_later2 tells r p random d e a found later near said =
+    found_near2 found near (made2_later tells found.json.items found.place (given_of r) random d e a later said)
 
 -- ---- a search that is broken off
 
-pub answers_broken : (tells : Type 0) (d : Pair) (f : SearchFault) → d.volume_after ≡ count_after (is_search_failure f) d.volume_before → d.after ≡ d.before
-    → (tells → d.new ≡ d.old) → BrokenOff tells d (search_fault_answer f)
-answers_broken tells d search_fault.Device count same kept = search_failed (inl (count, same)) kept refl
-answers_broken tells d search_fault.Memory count same kept = no_memory (count, same) kept refl
-answers_broken tells d search_fault.Spent count same kept = cut_short (count, same) kept refl
+pub answers_broken : (takes tells : Type 0) (d : Pair) (f : SearchFault) → MayEnd takes f → d.volume_after ≡ count_after (is_search_failure f) d.volume_before
+    → d.after ≡ d.before → (tells → d.new ≡ d.old) → BrokenOff takes tells d (search_fault_answer f)
+answers_broken takes tells d search_fault.Device may count same kept = search_failed (inl (count, same)) kept refl
+answers_broken takes tells d search_fault.Memory may count same kept = no_memory may (count, same) kept refl
+answers_broken takes tells d search_fault.Spent may count same kept = cut_short may (count, same) kept refl
 
-broken_later : (tells : Type 0) (d e : Pair) (a : Answer) → IsLater tells d e → BrokenOff tells d a → BrokenOff tells e a
-broken_later tells d e a later (search_failed one same is) = search_failed (one_later tells d e later one) (same_later tells d e later same) is
-broken_later tells d e a later (no_memory none same is) = no_memory (none_later tells d e later none) (same_later tells d e later same) is
-broken_later tells d e a later (cut_short none same is) = cut_short (none_later tells d e later none) (same_later tells d e later same) is
+-- by what the search's tally says
+pub may_end : (tally : Tally) (f : SearchFault) → IsCutShort tally f → MayEnd ⊤ f
+may_end tally search_fault.Device cut = tt
+may_end tally search_fault.Memory cut = tt
+may_end tally search_fault.Spent cut = record { tally = tally; all = cut }
+
+pub may_end_bare : (tally : Tally) (f : SearchFault) → IsCutWithoutMemory tally f → MayEnd ⊥ f
+may_end_bare tally search_fault.Device cut = tt
+may_end_bare tally search_fault.Memory cut = cut
+may_end_bare tally search_fault.Spent cut = record { tally = tally; all = cut }
+
+pub err_may_end : {A : Type 0} (tally : Tally) (r : Result A SearchFault) → IfErr r (IsCutShort tally) → IfErr r (MayEnd ⊤)
+err_may_end {A} tally (Ok x) cut = tt
+err_may_end {A} tally (Err f) cut = may_end tally f cut
+
+broken_later : (takes tells : Type 0) (d e : Pair) (a : Answer) → IsLater tells d e → BrokenOff takes tells d a → BrokenOff takes tells e a
+broken_later takes tells d e a later (search_failed one same is) = search_failed (one_later tells d e later one) (same_later tells d e later same) is
+broken_later takes tells d e a later (no_memory taken none same is) = no_memory taken (none_later tells d e later none) (same_later tells d e later same) is
+broken_later takes tells d e a later (cut_short spent none same is) = cut_short spent (none_later tells d e later none) (same_later tells d e later same) is
 
 -- ---- behind the combinations
 
@@ -196,21 +220,21 @@ searched1_later tells g p d e a later (none_near none same shut far is) =
     none_near (none_later tells d e later none) (same_later tells d e later same)
     (λ told. subst (λ (v : List ℕ). OpensNoneBelow v g p 64) (later.volume told) (shut told))
     (λ told. subst (λ (v : List ℕ). HasNone1 v g p) (later.volume told) (far told)) is
-searched1_later tells g p d e a later (broken_off said) = broken_off (broken_later tells d e a later said)
+searched1_later tells g p d e a later (broken_off said) = broken_off (broken_later ⊥ tells d e a later said)
 searched1_later tells g p d e a later (found_near found shut near said opens_) =
     near_later tells g p d e a found later
     (λ told. subst (λ (v : List ℕ). OpensNoneBelow v g p 64) (later.volume told) (shut told))
     (λ told. subst (λ (v : List ℕ). IsFound1 v g p found) (later.volume told) (near told)) said
 
-pub searched2_later : (tells : Type 0) (allowed : Allowed) (given : Option (List ℕ)) (p random : List ℕ) (d e : Pair) (a : Answer) → IsLater tells d e
-    → SearchedAnswer2 tells allowed given p random d a → SearchedAnswer2 tells allowed given p random e a
-searched2_later tells allowed given p random d e a later (none_near2 none same far is) =
+pub searched2_later : (tells : Type 0) (r : Rebuilding) (p random : List ℕ) (d e : Pair) (a : Answer) → IsLater tells d e
+    → SearchedAnswer2 tells r p random d a → SearchedAnswer2 tells r p random e a
+searched2_later tells r p random d e a later (none_near2 none same far is) =
     none_near2 (none_later tells d e later none) (same_later tells d e later same)
-    (λ told. subst (λ (v : List ℕ). HasNone2 allowed v p) (later.volume told) (far told)) is
-searched2_later tells allowed given p random d e a later (broken_off2 said) = broken_off2 (broken_later tells d e a later said)
-searched2_later tells allowed given p random d e a later (found_near2 found near said) =
-    near_later2 tells allowed given p random d e a found later
-    (λ told. subst (λ (v : List ℕ). IsFound2 allowed v p found) (later.volume told) (near told)) said
+    (λ told. subst (λ (v : List ℕ). HasNone2 (allowed_by r) v p) (later.volume told) (far told)) is
+searched2_later tells r p random d e a later (broken_off2 said) = broken_off2 (broken_later ⊤ tells d e a later said)
+searched2_later tells r p random d e a later (found_near2 found near said) =
+    near_later2 tells r p random d e a found later
+    (λ told. subst (λ (v : List ℕ). IsFoundBy r v p found) (later.volume told) (near told)) said
 
 searched_later : (tells : Type 0) (r : Rebuilding) (g : Given) (p random : List ℕ) (d e : Pair) (a : Answer) → IsLater tells d e
     → SearchedAnswer tells r g p random d a → SearchedAnswer tells r g p random e a
@@ -219,7 +243,7 @@ searched_later tells r g p random d e a later (searched_luks1 seeks said) =
     searched_luks1 (λ told. subst (λ (v : List ℕ). SeeksLuks1 (meant_by r) v) (later.volume told) (seeks told)) (searched1_later tells g p d e a later said)
 searched_later tells r g p random d e a later (searched_luks2 seeks said) =
     searched_luks2 (λ told. subst (λ (v : List ℕ). SeeksLuks1 (meant_by r) v → ⊥) (later.volume told) (seeks told))
-    (searched2_later tells (allowed_by r) (given_of r) p random d e a later said)
+    (searched2_later tells r p random d e a later said)
 
 -- by whether what is damaged is sought
 pub by_later : (thorough : Bool) (tells : Type 0) (r : Rebuilding) (g : Given) (p random : List ℕ) (d e : Pair) (a : Answer) → IsLater tells d e
@@ -244,9 +268,9 @@ found_rest g p v v' old new found same near keeps =
     inr (inr (record { words = p; has = refl; found = found; near = near; keeps = subst (λ (x : List ℕ). KeepsHeaded found.header g x old new) same keeps }))
 
 -- by metadata that was
-pub found_rest2 : (allowed : Allowed) (p v old new : List ℕ) (found : Found2) → IsFound2 allowed v p found → KeepsMade2 found.json.items found.place old new
-    → IsRest2 allowed p v old new
-found_rest2 allowed p v old new found near keeps = inr (record { words = p; has = refl; found = found; near = near; keeps = keeps })
+pub found_rest2 : (r : Rebuilding) (p v old new : List ℕ) (found : Found2) → IsFoundBy r v p found → KeepsMade2 found.json.items found.place old new
+    → IsRest2 r p v old new
+found_rest2 r p v old new found near keeps = inr (record { words = p; has = refl; found = found; near = near; keeps = keeps })
 
 -- of the same volume and target
 pub rest1_of : (g : Given) (p v v' old old' new : List ℕ) → v' ≡ v → old' ≡ old → IsRest1 g p v' old' new → IsRest1 g p v old new
@@ -261,10 +285,10 @@ luks1_rest r g p v v' old new same seeks rest = of_kept (subst (λ (x : List ℕ
     of_kept (inl kept) = inl kept
     of_kept (inr kept) = inr (kept_luks1 seeks kept)
 
-pub luks2_rest : (r : Rebuilding) (g : Given) (p v v' old new : List ℕ) → v' ≡ v → (SeeksLuks1 (meant_by r) v → ⊥) → IsRest2 (allowed_by r) p v' old new
+pub luks2_rest : (r : Rebuilding) (g : Given) (p v v' old new : List ℕ) → v' ≡ v → (SeeksLuks1 (meant_by r) v → ⊥) → IsRest2 r p v' old new
     → IsSearchedRest r g p v old new
-luks2_rest r g p v v' old new same seeks rest = of_kept (subst (λ (x : List ℕ). IsRest2 (allowed_by r) p x old new) same rest)
+luks2_rest r g p v v' old new same seeks rest = of_kept (subst (λ (x : List ℕ). IsRest2 r p x old new) same rest)
   where
-    of_kept : IsRest2 (allowed_by r) p v old new → IsSearchedRest r g p v old new
+    of_kept : IsRest2 r p v old new → IsSearchedRest r g p v old new
     of_kept (inl kept) = inl kept
     of_kept (inr kept) = inr (kept_luks2 seeks kept)

@@ -2,6 +2,7 @@
 //! values: what each answers.
 #![tactic(auto)]
 
+mod bound2;
 pub mod convert;
 mod header_work;
 mod of_either;
@@ -13,6 +14,7 @@ pub mod rebuild;
 mod searching;
 mod searching1;
 mod searching2;
+mod segment;
 mod trying;
 
 pub use of_metadata::copies_asked;

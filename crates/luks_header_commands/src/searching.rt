@@ -20,7 +20,7 @@ use luks1_header::fields::u16_at;
 use luks1_header::luks1_places::{SIZE, VERSION};
 use luks1_rebuilding::Given;
 use std::alloc::Global;
-use std::io::Write;
+use std::io::{Error, Write};
 
 /// Seeks a header by which the passphrase opens a keyslot, and makes it on the target.
 pub(crate) fn make_searched<D: Device, E: Write, G: Progress + DerivationProgress>(
@@ -107,4 +107,13 @@ pub(crate) fn not_searched<E: Write>(fault: SearchFault, volume: &str, err: &mut
 pub(crate) fn note_derivations<E: Write>(tally: &Tally, err: &mut E) {
     let (done, most) = (tally.done(), tally.most());
     let _ = writeln!(err, "luks: {done} derivations were made, of at most {most}");
+}
+
+/// Says in how many bits the digest is another, by which the keyslot opens.
+pub(crate) fn note_digest<E: Write>(slot: u8, bits: u32, err: &mut E) -> Result<(), Error> {
+    let counted = if bits == 1 { "bit" } else { "bits" };
+    writeln!(
+        err,
+        "luks: keyslot {slot} opens with {bits} {counted} of the digest turned"
+    )
 }

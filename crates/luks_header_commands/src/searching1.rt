@@ -12,7 +12,7 @@ use crate::header_work::READING_FAILED;
 use crate::of_fields::not_of_fields;
 use crate::of_found::make_of_header;
 use crate::progress::{DerivationProgress, Progress};
-use crate::searching::{not_searched, note_derivations};
+use crate::searching::{not_searched, note_derivations, note_digest};
 use crate::trying::{Trying, make_opened};
 use luks_commands::{Answer, Status};
 use luks_reading::Device;
@@ -23,9 +23,9 @@ use luks1_rebuilding::{Given, first_bytes};
 use std::alloc::Global;
 use std::io::Write;
 
-/// A keyslot that is in use is derived at most so often: as it stands, with each bit turned of the digest, of the
-/// fields before the keyslots that are searched, and of its entry.
-const EACH: u32 = 1 + 160 + 320 + 384;
+/// A keyslot that is in use is derived at most so often: as it stands, by which a digest that differs in few bits is
+/// found, too, and with each bit turned of the fields before the keyslots that are searched, and of its entry.
+const EACH: u32 = 1 + 320 + 384;
 
 /// Where the entries of the keyslots begin, and how long each is, in bytes.
 const ENTRIES: usize = 208;
@@ -158,11 +158,6 @@ fn note_found<E: Write>(found: &Found1, tally: &Tally, err: &mut E) {
                 "luks: keyslot {slot} opens with bit {bit} of byte {place} turned"
             )
         }
-        Change1::Digest { bits } => {
-            writeln!(
-                err,
-                "luks: keyslot {slot} opens with {bits} bits of the digest turned"
-            )
-        }
+        Change1::Digest { bits } => note_digest(slot, bits, err),
     };
 }

@@ -750,6 +750,10 @@ may take and how long before, and what was found behind. Ctrl-C ends it, and
 nothing is written before the passphrase has opened a keyslot. Memory is taken
 for Argon2 by --memory alone: without it no such keyslot is tried.
 
+Where keyslots and digests of LUKS2 stand whole, but no segment does, --cipher,
+--payload and --sector-size together say where and how the data is encrypted.
+LUKS2 is meant then. luks find --fragments tells what stands whole.
+
 Written are, with a flush after each: zeros over the first 512 bytes of both
 copies' places, of LUKS1 0 and 16384; the area of each keyslot, at its place;
 then of LUKS2 the second copy of the header, and the first, of LUKS1 the header.

@@ -27,6 +27,15 @@ also how far it is, of more than 1 GiB.
 Only what begins and ends between --offset and --length is looked for. What is
 found in the data of a volume may be a file, as a header backup.
 
+With --fragments what is left of LUKS2 metadata is told in place of volumes: the
+keyslots, digests and segments that stand whole, wherever they begin, though not
+all around them does. luks rebuild --thorough --passphrase makes a header of
+them. It prints a line for each, as soon as it is found:
+  OFFSET KIND NUMBER  the byte of DEVICE where it begins; keyslot, digest or
+                      segment; its number, or - where none stands before it
+and none found, device fault or no memory as above. The first read that fails
+ends it.
+
 Exit status:
   0  one was found or more, or help was asked for
   1  none was found

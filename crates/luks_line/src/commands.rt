@@ -324,6 +324,7 @@ static COMMANDS: [Described; 21] = [
             LongOption::GivenHash,
             LongOption::KeyBytes,
             LongOption::Payload,
+            LongOption::GivenSectorSize,
             LongOption::TriedPassphrase,
             LongOption::TriedPassphraseLine,
             LongOption::Memory,
@@ -340,7 +341,12 @@ static COMMANDS: [Described; 21] = [
         command: CommandName::Find,
         overwrites: false,
         operands: &[Operand::Device],
-        options: &[LongOption::Offset, LongOption::Length, LongOption::Quiet],
+        options: &[
+            LongOption::Fragments,
+            LongOption::Offset,
+            LongOption::Length,
+            LongOption::Quiet,
+        ],
         choices: &[],
     },
     Described {

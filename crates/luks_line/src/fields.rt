@@ -1,4 +1,4 @@
-//! The fields of a LUKS1 header that are given to the command that rebuilds.
+//! The fields of a LUKS1 header, and the segment of a LUKS2 header, that are given to the command that rebuilds.
 
 use crate::derivation::is_given;
 use clap::ArgMatches;
@@ -7,7 +7,7 @@ use luks_request::Luks1Fields;
 /// How many bytes a name has at most: its field ends with a zero byte.
 const LONGEST_NAME: usize = 31;
 
-/// What of the words is no field of a LUKS1 header, as `clap` says it of a value. A text that is no uuid is
+/// What of the words is no field of a header, as `clap` says it of a value. A text that is no uuid is
 /// judged where the header is made.
 pub(crate) fn wrong_field(given: &ArgMatches<'_>) -> Option<&'static str> {
     if let Some(text) = given.get_str("cipher") {
@@ -27,17 +27,44 @@ pub(crate) fn wrong_field(given: &ArgMatches<'_>) -> Option<&'static str> {
 
 /// That nothing of a LUKS1 header is sought longer but by a passphrase, and that memory is for that alone.
 fn wrong_search(given: &ArgMatches<'_>) -> Option<&'static str> {
-    let has_passphrase = is_given(given, "passphrase") || is_given(given, "passphrase-line");
-    let is_thorough = given.get_flag("thorough");
-    if is_thorough && has_passphrase {
-        return None;
+    if searches(given) {
+        return wrong_segment(given);
+    }
+    if is_given(given, "sector-size") {
+        return Some(NEEDED_WITH_SECTORS);
     }
     if is_given(given, "memory") {
         return Some("the argument '--memory <MIB>' needs '--thorough' and '--passphrase <FILE>'");
     }
-    if is_thorough && names_field(given) {
+    if given.get_flag("thorough") && names_field(given) {
         return Some(
             "the argument '--thorough' cannot be used with '--cipher', '--hash', '--key-bytes' or '--payload' but beside '--passphrase <FILE>'",
+        );
+    }
+    None
+}
+
+/// Whether what is damaged of a header is sought by a passphrase.
+fn searches(given: &ArgMatches<'_>) -> bool {
+    let has_passphrase = is_given(given, "passphrase") || is_given(given, "passphrase-line");
+    has_passphrase && given.get_flag("thorough")
+}
+
+/// What is said of the size of a data sector without all that says the rest of a segment.
+const NEEDED_WITH_SECTORS: &str =
+    "the argument '--sector-size <BYTES>' needs '--thorough', '--passphrase <FILE>', '--cipher <NAME-MODE>' and '--payload <SECTOR>'";
+
+/// That a segment is given as a whole, and beside it no field that a LUKS1 header alone has.
+fn wrong_segment(given: &ArgMatches<'_>) -> Option<&'static str> {
+    if !is_given(given, "sector-size") {
+        return None;
+    }
+    if !is_given(given, "cipher") || !is_given(given, "payload") {
+        return Some(NEEDED_WITH_SECTORS);
+    }
+    if is_given(given, "hash") || is_given(given, "key-bytes") {
+        return Some(
+            "the argument '--sector-size <BYTES>' cannot be used with '--hash <NAME>' or '--key-bytes <N>'",
         );
     }
     None
@@ -73,6 +100,17 @@ pub(crate) fn fields_of<'a>(given: &ArgMatches<'a>) -> Luks1Fields<'a> {
         hash: given.get_str("hash"),
         key_bytes: given.get_one::<u32>("key-bytes"),
         payload: given.get_one::<u32>("payload"),
+    }
+}
+
+/// The size of a data sector of a LUKS2 segment, if it is given.
+pub(crate) fn sector_size_of(given: &ArgMatches<'_>) -> Option<u32> {
+    match given.get_str("sector-size")? {
+        "512" => Some(512),
+        "1024" => Some(1024),
+        "2048" => Some(2048),
+        "4096" => Some(4096),
+        _ => None,
     }
 }
 

@@ -70,6 +70,8 @@ pub(crate) enum LongOption {
     NewKeyBytes,
     SectorSize,
     OlderCipher,
+    GivenSectorSize,
+    Fragments,
 }
 
 impl LongOption {
@@ -87,7 +89,7 @@ pub(crate) struct OptionRow {
 }
 
 /// In the order of `LongOption`.
-static OPTIONS: [OptionRow; 64] = [
+static OPTIONS: [OptionRow; 66] = [
     OptionRow {
         name: "detached",
         needed: false,
@@ -470,6 +472,18 @@ static OPTIONS: [OptionRow; 64] = [
         name: "older",
         needed: false,
         help: "Accept a cipher of older disks",
+        takes: Takes::Nothing,
+    },
+    OptionRow {
+        name: "sector-size",
+        needed: false,
+        help: "LUKS2: how long a data sector is, 512 to 4096",
+        takes: Takes::GivenSectorSize,
+    },
+    OptionRow {
+        name: "fragments",
+        needed: false,
+        help: "Find keyslots, digests and segments instead",
         takes: Takes::Nothing,
     },
 ];

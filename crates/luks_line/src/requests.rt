@@ -3,7 +3,7 @@
 use crate::command_name::CommandName;
 use crate::derivation::{argon2_of, kdf_of};
 use crate::encryption::{cipher_of, key_bytes_of};
-use crate::fields::fields_of;
+use crate::fields::{fields_of, sector_size_of};
 use crate::matching::matching_of;
 use crate::search::Search;
 use crate::sized::{bytes_of, mib_of};
@@ -30,11 +30,12 @@ fn volume_of<'a>(given: &ArgMatches<'a>) -> Option<&'a str> {
     given.get_str("VOLUME").or(given.get_str("SOURCE"))
 }
 
-/// Which disk is searched, and where.
+/// Which disk is searched, where, and for what.
 pub(crate) fn search_of<'a>(given: &ArgMatches<'a>) -> Option<Search<'a>> {
     Some(Search {
         disk: given.get_str("DEVICE")?,
         place: place_of(given)?,
+        fragments: given.get_flag("fragments"),
     })
 }
 
@@ -295,6 +296,7 @@ fn rebuilding_of<'a>(given: &ArgMatches<'a>) -> Option<Command<'a>> {
         thorough: given.get_flag("thorough"),
         uuid: given.get_str("uuid"),
         luks1: fields_of(given),
+        sector_size: sector_size_of(given),
         over: given.get_flag("over"),
     }))
 }

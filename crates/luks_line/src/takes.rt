@@ -48,6 +48,8 @@ pub(crate) enum Takes {
     KeyBytes,
     /// The length of the data's sectors in bytes.
     SectorSize,
+    /// The length of the data's sectors in bytes, as a LUKS2 segment may have it.
+    GivenSectorSize,
     /// A sector, by its number.
     Sector,
     /// A key derivation function, one of which counts without the option.
@@ -80,6 +82,9 @@ static CIPHERS: [&str; 5] = [
     "aes-cbc-plain",
 ];
 
+/// The lengths that a data sector of a LUKS2 segment may have (LUKS2 On-Disk Format 1.1, 3.3).
+static SECTOR_SIZES: [&str; 4] = ["512", "1024", "2048", "4096"];
+
 impl Takes {
     pub(crate) fn action(self) -> ArgAction {
         match self {
@@ -106,6 +111,7 @@ impl Takes {
             Takes::Lanes => ValueParser::Unsigned(1, 4),
             Takes::Version => ValueParser::Names(&["1", "2"]),
             Takes::NewCipher => ValueParser::Names(&CIPHERS),
+            Takes::GivenSectorSize => ValueParser::Names(&SECTOR_SIZES),
             Takes::Hash => ValueParser::Names(HashName::NAMES),
         }
     }
@@ -134,7 +140,8 @@ impl Takes {
             Takes::Version => &["VERSION"],
             Takes::Hash => &["HASH"],
             Takes::Uuid | Takes::Label => &["TEXT"],
-            Takes::Offset | Takes::Bytes | Takes::CopySize | Takes::SectorSize => &["BYTES"],
+            Takes::Offset | Takes::Bytes | Takes::CopySize => &["BYTES"],
+            Takes::SectorSize | Takes::GivenSectorSize => &["BYTES"],
             Takes::Cipher | Takes::NewCipher => &["NAME-MODE"],
             Takes::Name => &["NAME"],
             Takes::Sector => &["SECTOR"],
@@ -161,7 +168,12 @@ impl Takes {
     pub(crate) fn hides(self) -> bool {
         matches!(
             self,
-            Takes::Hash | Takes::CopySize | Takes::Kdf | Takes::ChosenKdf | Takes::NewCipher
+            Takes::Hash
+                | Takes::CopySize
+                | Takes::Kdf
+                | Takes::ChosenKdf
+                | Takes::NewCipher
+                | Takes::GivenSectorSize
         )
     }
 }

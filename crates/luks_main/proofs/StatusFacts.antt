@@ -1,4 +1,5 @@
 -- Each command's answers end with the statuses of the table.
+use Rattle.std.specs.Prelude.{⊤}
 use Rattle.std.proofs.Common.{◌≡◌, ◌⊎◌, ℕ, List, Bool, true, false, Option, Some, None, Bor, Result, Ok, Err, refl, sym, ap, subst, inl, inr, string_bytes}
 use Rattle.luks_reading.specs.declared.report.Data.{Data}
 use Rattle.luks_reading.specs.declared.report.Version.TheVariants.{Luks1, Luks2}
@@ -45,7 +46,7 @@ use Rattle.luks_commands.specs.ShowAnswers.{AnswersShow, IsFullAnswer, IsJsonAns
 use Rattle.luks_header_commands.specs.Converting.{AnswersConvert, IsConvertAnswer}
 use Rattle.luks_header_commands.specs.FoundHeader.{IsHeadedAnswer}
 use Rattle.luks_header_commands.specs.FoundMetadata.{IsMadeAnswer2}
-use Rattle.luks_header_commands.specs.Searching.{allowed_by, broken_off, broken_off2, by_combinations, cut_short, found_near, found_near2, no_memory, none_near, none_near2, search_failed, searched_luks1, searched_luks2, version_unread, BrokenOff, SearchedAnswer, SearchedAnswer1, SearchedAnswer2}
+use Rattle.luks_header_commands.specs.Searching.{broken_off, broken_off2, by_combinations, cut_short, found_near, found_near2, no_memory, none_near, none_near2, search_failed, searched_luks1, searched_luks2, version_unread, BrokenOff, SearchedAnswer, SearchedAnswer1, SearchedAnswer2}
 use Rattle.luks_header_commands.specs.Tried.{no_header, none_open, one_opens, trial_failed, TriedAnswer}
 use Rattle.luks_header_commands.specs.Trying.{AnswersBy, AnswersRebuild, IsTriedAnswer, TriedBy}
 use Rattle.luks_header_commands.specs.Rebuilding.{given_of, copies_asked, IsAnswerOf, IsLuks1Answer, IsLuks2Answer, IsRebuildAnswer}
@@ -398,10 +399,10 @@ made2_there tells json place given random d DeviceFault said = refl
 made2_there tells json place given random d NoMemory said = refl
 made2_there tells json place given random d a said = absurd said
 
-broken_there : (tells : Type 0) (d : Pair) (a : Answer) → BrokenOff tells d a → EndsSought a (own a)
-broken_there tells d a (search_failed one same is) = subst (λ x. EndsSought x (own x)) (sym is) refl
-broken_there tells d a (no_memory none same is) = subst (λ x. EndsSought x (own x)) (sym is) refl
-broken_there tells d a (cut_short none same is) = subst (λ x. EndsSought x (own x)) (sym is) refl
+broken_there : (takes tells : Type 0) (d : Pair) (a : Answer) → BrokenOff takes tells d a → EndsSought a (own a)
+broken_there takes tells d a (search_failed one same is) = subst (λ x. EndsSought x (own x)) (sym is) refl
+broken_there takes tells d a (no_memory taken none same is) = subst (λ x. EndsSought x (own x)) (sym is) refl
+broken_there takes tells d a (cut_short spent none same is) = subst (λ x. EndsSought x (own x)) (sym is) refl
 
 sought_luks1_there : (tells : Type 0) (given : GivenFields) (d : Pair) (a : Answer) → IsLuks1Answer tells given d a → EndsSought a (own a)
 sought_luks1_there tells given d (Done slot) said = (said.1, refl)
@@ -418,20 +419,20 @@ combined_there tells given p d a (one_opens o first said) = sought_luks1_there t
 searched1_there : (tells : Type 0) (given : GivenFields) (p : List ℕ) (d : Pair) (a : Answer) → SearchedAnswer1 tells given p d a → EndsSought a (own a)
 searched1_there tells given p d a (by_combinations said other) = combined_there tells given p d a said
 searched1_there tells given p d a (none_near none same shut far is) = subst (λ x. EndsSought x (own x)) (sym is) refl
-searched1_there tells given p d a (broken_off said) = broken_there tells d a said
+searched1_there tells given p d a (broken_off said) = broken_there ⊥ tells d a said
 searched1_there tells given p d a (found_near found shut near said opens_) = headed_there tells found.header given d a said
 
-searched2_there : (tells : Type 0) (allowed : Allowed) (given : Option (List ℕ)) (p random : List ℕ) (d : Pair) (a : Answer)
-    → SearchedAnswer2 tells allowed given p random d a → EndsSought a (own a)
-searched2_there tells allowed given p random d a (none_near2 none same far is) = subst (λ x. EndsSought x (own x)) (sym is) refl
-searched2_there tells allowed given p random d a (broken_off2 said) = broken_there tells d a said
-searched2_there tells allowed given p random d a (found_near2 found near said) = made2_there tells found.json.items found.place given random d a said
+searched2_there : (tells : Type 0) (r : Rebuilding) (p random : List ℕ) (d : Pair) (a : Answer)
+    → SearchedAnswer2 tells r p random d a → EndsSought a (own a)
+searched2_there tells r p random d a (none_near2 none same far is) = subst (λ x. EndsSought x (own x)) (sym is) refl
+searched2_there tells r p random d a (broken_off2 said) = broken_there ⊤ tells d a said
+searched2_there tells r p random d a (found_near2 found near said) = made2_there tells found.json.items found.place (given_of r) random d a said
 
 searched_there : (tells : Type 0) (r : Rebuilding) (given : GivenFields) (p random : List ℕ) (d : Pair) (a : Answer)
     → SearchedAnswer tells r given p random d a → EndsSought a (own a)
 searched_there tells r given p random d a (version_unread one same is) = subst (λ x. EndsSought x (own x)) (sym is) refl
 searched_there tells r given p random d a (searched_luks1 seeks said) = searched1_there tells given p d a said
-searched_there tells r given p random d a (searched_luks2 seeks said) = searched2_there tells (allowed_by r) (given_of r) p random d a said
+searched_there tells r given p random d a (searched_luks2 seeks said) = searched2_there tells r p random d a said
 
 -- by whether it is
 by_there : (thorough : Bool) (tells : Type 0) (r : Rebuilding) (given : GivenFields) (p random : List ℕ) (d : Pair) (a : Answer)

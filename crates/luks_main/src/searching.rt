@@ -1,14 +1,19 @@
-//! A search for the volumes of a disk.
-ghost use Rattle.std.specs.Prelude.{◌≡◌};
+//! A search for the volumes of a disk, or for the fragments of LUKS2 metadata on it.
+ghost use Rattle.std.specs.Prelude.{◌+◌, ◌<◌, ◌^◌};
+ghost use Rattle.std.specs.Result.{ForOk};
+ghost use Rattle.luks_area.specs.Device.{IsSettled};
 ghost use Rattle.luks_main.specs.Statuses.{EndsFind};
 
 use crate::FAULT;
 use crate::hints::tell;
 use crate::progress::ProgressLine;
+use luks_area::Device;
+use luks_commands::{InputFault, Printer};
 use luks_execution::CountingPrinter;
 use luks_files::{Opening, open_volume};
-use luks_find_command::find;
+use luks_find_command::{Progress, find, fragments};
 use luks_line::{Manner, Search};
+use std::alloc::Global;
 use std::fs::File;
 use std::io::{self, Write};
 use std::rt::{Clock, Files};
@@ -38,7 +43,7 @@ impl<R: Eprint> Write for Notes<'_, R> {
     }
 }
 
-/// Opens the disk and searches it: each start is printed as soon as it is certain.
+/// Opens the disk and searches it: each start, or each fragment, is printed as soon as it is certain.
 /// Gives the exit status.
 #[inline(never)]
 pub(crate) fn search<R: AllocGlobal + Clock + Files<File = File> + Print + Eprint>(
@@ -68,11 +73,10 @@ pub(crate) fn search<R: AllocGlobal + Clock + Files<File = File> + Print + Eprin
         None
     };
     let mut progress = ProgressLine::new(rt, search.disk, pairs);
-    let status = find::run(
+    let status = search_for(
         rt.alloc(),
         &mut disk,
-        search.disk,
-        search.place,
+        search,
         &mut out,
         &mut notes,
         &mut progress,
@@ -82,4 +86,25 @@ pub(crate) fn search<R: AllocGlobal + Clock + Files<File = File> + Print + Eprin
         tell(rt, progress.held());
     }
     status
+}
+
+/// Searches the disk for what is sought; gives the exit status.
+fn search_for<D: Device, P: Printer, E: Write, G: Progress>(
+    alloc: Global,
+    disk: &mut Result<D, InputFault>,
+    search: Search<'_>,
+    out: &mut P,
+    err: &mut E,
+    progress: &mut G,
+) -> u8
+    requires room { ForOk disk.old (λ d. D.failed d + 1 < 2 ^ 64) }
+    requires settled { D.tells → ForOk disk.old (IsSettled D.unsettled) }
+    requires printer { P.failures out.old + 1 < 2 ^ 64 }
+    ensures { EndsFind result }
+{
+    if search.fragments {
+        fragments::run(alloc, disk, search.disk, search.place, out, err, progress)
+    } else {
+        find::run(alloc, disk, search.disk, search.place, out, err, progress)
+    }
 }

@@ -1,8 +1,7 @@
 -- Objects of a part of a volume are objects of the volume.
-use Rattle.std.proofs.Common.{◌≡◌, ℕ, ◌+◌, ◌<◌, ◌≤◌, List, length, refl, sym, ap, subst, ◌∙◌, arith}
-use Rattle.luks_area.proofs.RangeFacts.{part-part, length-part_inside, part-whole}
+use Rattle.std.proofs.Common.{◌≡◌, ℕ, ◌+◌, ◌<◌, ◌≤◌, List, length, ap, subst, ◌∙◌, arith}
+use Rattle.luks_area.proofs.RangeFacts.{part-part}
 use Rattle.luks_area.specs.Ranges.{part}
-use Rattle.luks_fragments.specs.Fragments.{IsFragmentAt}
 use Rattle.luks_fragments.specs.Kinds.{HasKind}
 use Rattle.luks_fragments.specs.Objects.{IsObjectAt, closed, opened}
 use Rattle.luks_fragments.specs.declared.kinds.Kind.{Kind}

@@ -1,5 +1,5 @@
 -- The area that is written of metadata is accepted as well.
-use Rattle.std.proofs.Common.{◌≡◌, ℕ, List, Option, Some, None, Result, Ok, Err, IfOk, IfSome, length, subst, sym}
+use Rattle.std.proofs.Common.{ℕ, List, Option, Some, None, Result, Ok, Err, IfOk, IfSome, subst, sym}
 use Rattle.serde_json.specs.Data.{Data}
 use Rattle.luks_making.specs.WrittenArea.{IsWrittenArea}
 use Rattle.luks_rules.specs.Accepted.{IsContent, IsMeta}

@@ -1,4 +1,4 @@
-//! Three fragments, and what opens by them.
+//! Three objects, and what opens by them.
 ghost use Rattle.std.specs.Prelude.{◌≡◌, ◌+◌, ◌^◌, ◌<◌, ◌≤◌, length, IfErr, IfOk, IfSome};
 ghost use Rattle.luks_area.specs.Device.{CountsFailure, IsUnchanged};
 ghost use Rattle.luks_meta.specs.Accepted.{IsMeta};
@@ -17,7 +17,7 @@ use luks_meta::Meta;
 use luks_trials::{Progress, SearchFault, Tally, Trying, meta_of, opens};
 use std::alloc::Global;
 
-/// Metadata that is put together of three fragments, by which a keyslot opens.
+/// Metadata that is put together of three objects, by which a keyslot opens.
 #[derive(Drop)]
 pub struct Pieced {
     /// Its JSON area, of 12288 bytes: that of a header of 16384.
@@ -28,8 +28,8 @@ pub struct Pieced {
     pub keyslot: u64,
     /// Where the digest stands.
     pub digest: u64,
-    /// Where the segment stands.
-    pub segment: u64,
+    /// Where the segment stands: none where it is given.
+    pub segment: Option<u64>,
 }
 
 /// The JSON area of the metadata that is made of these parts, if its keyslot opens.

@@ -6,8 +6,10 @@ ghost use Rattle.luks_trials.specs.Faults.{is_search_failure, IsCutShort};
 ghost use Rattle.luks_trials.specs.Tallies.{Counts};
 ghost use Rattle.luks_piecing.specs.Pieced.{IsPieced, IsTextAt};
 
+use crate::given::GivenSegment;
 use crate::joining::{Pieced, joined};
 use crate::reading::read_fragment;
+use crate::segment::segment_of;
 use crate::spots::{Spot, Spots, chosen_segment, collected};
 use luks_area::Device;
 use luks_fragments::{Kind, Parts, needed_region};
@@ -26,16 +28,21 @@ pub(crate) struct Seen<'a> {
 }
 
 /// The first metadata that is put together of a keyslot, a digest and a segment, which stand whole in the first 8 MiB of the
-/// source, by which the passphrase opens the keyslot; None where it opens none so.
+/// source, by which the passphrase opens the keyslot; None where it opens none so. Where a segment is given, it is taken
+/// in place of one that stands.
 ///
-/// Of each kind the first 64 count, of segments those that encrypt. Each keyslot is tried with each digest, at most 4096
-/// times in all; the segment is that with the number which the digest names, or else the first one. The first 8 MiB are
-/// read in pieces of 1 MiB. `tally` counts each derivation before it is made: `Spent` comes only where as many were made
-/// as may be. `Device` comes exactly where a device call failed. Takes memory for one piece, a few areas of 12288 bytes
-/// with their values, and what is allowed to Argon2.
+/// The first 8 MiB are read in pieces of 1 MiB. Of each kind the first 64 count, of segments those that encrypt; what stands
+/// twice in a piece, as in both copies, counts once. Each keyslot is tried with each digest, at most 4096 times in all;
+/// the segment is that with the number which the digest names, or else the first one. None is tried where no segment is
+/// there, or where the cipher of the one that is given has more than 64 bytes, or some that can't stand between quotes.
+///
+/// `tally` counts each derivation before it is made: `Spent` comes only where as many were made as may be. `Device` comes
+/// exactly where a device call failed. Takes memory for one piece, a few areas of 12288 bytes with their values, and what
+/// is allowed to Argon2.
 pub fn search_fragments<D: Device, P: Progress>(
     alloc: Global,
     source: &mut D,
+    given: &Option<GivenSegment<'_>>,
     trying: &Trying<'_>,
     tally: &mut Tally,
     progress: &mut P,
@@ -50,11 +57,11 @@ pub fn search_fragments<D: Device, P: Progress>(
     ensures cut { IfErr result (IsCutShort tally.new) }
     ensures long { IfOk result (λ found. IfSome found (λ f. length f.json.items ≡ 12288)) }
     ensures found { D.tells → IfOk result (λ found. IfSome found
-        (IsPieced trying.now.allowed (D.bytes source.old) trying.now.passphrase.now)) }
+        (IsPieced trying.now.allowed given.now (D.bytes source.old) trying.now.passphrase.now)) }
 {
     let spots = collected(alloc, source)?;
     for spot in spots.keyslots.iter() {
-        let found = by_keyslot(alloc, source, *spot, &spots, trying, tally, progress)?;
+        let found = by_keyslot(alloc, source, *spot, &spots, given, trying, tally, progress)?;
         if found.is_some() {
             return Ok(found);
         }
@@ -68,6 +75,7 @@ fn by_keyslot<D: Device, P: Progress>(
     source: &mut D,
     spot: Spot,
     spots: &Spots,
+    given: &Option<GivenSegment<'_>>,
     trying: &Trying<'_>,
     tally: &mut Tally,
     progress: &mut P,
@@ -82,7 +90,7 @@ fn by_keyslot<D: Device, P: Progress>(
     ensures cut { IfErr result (IsCutShort tally.new) }
     ensures long { IfOk result (λ found. IfSome found (λ f. length f.json.items ≡ 12288)) }
     ensures found { D.tells → IfOk result (λ found. IfSome found
-        (IsPieced trying.now.allowed (D.bytes source.old) trying.now.passphrase.now)) }
+        (IsPieced trying.now.allowed given.now (D.bytes source.old) trying.now.passphrase.now)) }
 {
     let Some(text) = read_fragment(alloc, source, spot, Kind::Keyslot)? else {
         return Ok(None);
@@ -95,7 +103,7 @@ fn by_keyslot<D: Device, P: Progress>(
         text: &text,
         region,
     };
-    by_seen(alloc, source, &seen, spots, trying, tally, progress)
+    by_seen(alloc, source, &seen, spots, given, trying, tally, progress)
 }
 
 /// The same with this keyslot.
@@ -104,6 +112,7 @@ fn by_seen<D: Device, P: Progress>(
     source: &mut D,
     keyslot: &Seen<'_>,
     spots: &Spots,
+    given: &Option<GivenSegment<'_>>,
     trying: &Trying<'_>,
     tally: &mut Tally,
     progress: &mut P,
@@ -120,12 +129,12 @@ fn by_seen<D: Device, P: Progress>(
     ensures cut { IfErr result (IsCutShort tally.new) }
     ensures long { IfOk result (λ found. IfSome found (λ f. length f.json.items ≡ 12288)) }
     ensures found { D.tells → IfOk result (λ found. IfSome found
-        (IsPieced trying.now.allowed (D.bytes source.old) trying.now.passphrase.now)) }
+        (IsPieced trying.now.allowed given.now (D.bytes source.old) trying.now.passphrase.now)) }
 {
     for digest in spots.digests.iter() {
         let segment = chosen_segment(&spots.segments, digest.segment);
         let found = by_digest(
-            alloc, source, keyslot, *digest, segment, trying, tally, progress,
+            alloc, source, keyslot, *digest, segment, given, trying, tally, progress,
         )?;
         if found.is_some() {
             return Ok(found);
@@ -134,13 +143,14 @@ fn by_seen<D: Device, P: Progress>(
     Ok(None)
 }
 
-/// The same with the digest at the spot, and this segment.
+/// The same with the digest at the spot, and the segment that was seen there, if none is given.
 fn by_digest<D: Device, P: Progress>(
     alloc: Global,
     source: &mut D,
     keyslot: &Seen<'_>,
     spot: Spot,
-    chosen: Option<Spot>,
+    seen: Option<Spot>,
+    given: &Option<GivenSegment<'_>>,
     trying: &Trying<'_>,
     tally: &mut Tally,
     progress: &mut P,
@@ -157,15 +167,12 @@ fn by_digest<D: Device, P: Progress>(
     ensures cut { IfErr result (IsCutShort tally.new) }
     ensures long { IfOk result (λ found. IfSome found (λ f. length f.json.items ≡ 12288)) }
     ensures found { D.tells → IfOk result (λ found. IfSome found
-        (IsPieced trying.now.allowed (D.bytes source.old) trying.now.passphrase.now)) }
+        (IsPieced trying.now.allowed given.now (D.bytes source.old) trying.now.passphrase.now)) }
 {
-    let Some(chosen) = chosen else {
-        return Ok(None);
-    };
     let Some(digest) = read_fragment(alloc, source, spot, Kind::Digest)? else {
         return Ok(None);
     };
-    let Some(segment) = read_fragment(alloc, source, chosen, Kind::Segment)? else {
+    let Some(segment) = segment_of(alloc, source, given, seen)? else {
         return Ok(None);
     };
     let parts = Parts {
@@ -174,7 +181,7 @@ fn by_digest<D: Device, P: Progress>(
         number: number_of(spot.number),
         keyslot: keyslot.text,
         digest: &digest,
-        segment: &segment,
+        segment: &segment.text,
     };
     let Some(json) = joined(alloc, source, &parts, trying, tally, progress)? else {
         return Ok(None);
@@ -184,7 +191,7 @@ fn by_digest<D: Device, P: Progress>(
         slot: parts.slot,
         keyslot: keyslot.spot.at,
         digest: spot.at,
-        segment: chosen.at,
+        segment: segment.at,
     }))
 }
 

@@ -1,10 +1,9 @@
 //! A fragment is read again where it was seen.
-ghost use Rattle.std.specs.Prelude.{◌≡◌, ◌+◌, ◌^◌, ◌<◌, ◌≤◌, ◌↔◌, length, IfErr, IfOk, IfSome, IsTrue};
+ghost use Rattle.std.specs.Prelude.{◌≡◌, ◌≢◌, ◌+◌, ◌^◌, ◌<◌, ◌≤◌, ◌↔◌, length, IfErr, IfOk, IfSome, IsTrue};
 ghost use Rattle.luks_area.specs.Device.{CountsFailure, IsUnchanged};
 ghost use Rattle.luks_area.specs.Ranges.{part};
 ghost use Rattle.luks_fragments.specs.Objects.{IsObjectAt};
-ghost use Rattle.luks_trials.specs.Faults.{is_search_failure, IsCutShort};
-ghost use Rattle.luks_trials.specs.declared.tally.Tally.{Tally as TheTally};
+ghost use Rattle.luks_trials.specs.Faults.{is_search_failure};
 ghost use Rattle.luks_piecing.specs.Pieced.{IsTextAt};
 
 use crate::spots::Spot;
@@ -29,7 +28,7 @@ pub(crate) fn read_fragment<D: Device>(
     ensures unchanged { IsUnchanged D.tells D.size D.bytes D.unsettled source.old source.new }
     ensures count { CountsFailure is_search_failure result
         (D.failed source.old) (D.failed source.new) }
-    ensures cut { (tally : TheTally) → IfErr result (IsCutShort tally) }
+    ensures kinds { IfErr result (λ f. f ≢ SearchFault.Spent) }
     ensures some { IfOk result (λ found. IfSome found (λ text. 1 ≤ length text.items)) }
     ensures there { D.tells → IfOk result (λ found. IfSome found (λ text.
         IsTextAt (D.bytes source.old) spot.at kind text.items)) }
@@ -63,7 +62,7 @@ fn read_part<D: Device>(
     ensures unchanged { IsUnchanged D.tells D.size D.bytes D.unsettled source.old source.new }
     ensures count { CountsFailure is_search_failure result
         (D.failed source.old) (D.failed source.new) }
-    ensures cut { (tally : TheTally) → IfErr result (IsCutShort tally) }
+    ensures kinds { IfErr result (λ f. f ≢ SearchFault.Spent) }
     ensures inside { IfOk result (λ found. IfSome found (λ text.
         area.start + length text.items ≤ D.size source.old)) }
     ensures part { D.tells → IfOk result (λ found. IfSome found (λ text.

@@ -1,8 +1,7 @@
 //! Where fragments were seen.
-ghost use Rattle.std.specs.Prelude.{◌≡◌, ◌+◌, ◌^◌, ◌<◌, ◌≤◌, length, IfErr};
+ghost use Rattle.std.specs.Prelude.{◌≡◌, ◌≢◌, ◌+◌, ◌^◌, ◌<◌, ◌≤◌, length, IfErr};
 ghost use Rattle.luks_area.specs.Device.{CountsFailure, IsUnchanged};
-ghost use Rattle.luks_trials.specs.Faults.{is_search_failure, IsCutShort};
-ghost use Rattle.luks_trials.specs.declared.tally.Tally.{Tally as TheTally};
+ghost use Rattle.luks_trials.specs.Faults.{is_search_failure};
 
 use arrayvec::ArrayVec;
 use luks_area::Device;
@@ -56,7 +55,7 @@ pub(crate) fn collected<D: Device>(alloc: Global, source: &mut D) -> Result<Spot
     ensures unchanged { IsUnchanged D.tells D.size D.bytes D.unsettled source.old source.new }
     ensures count { CountsFailure is_search_failure result
         (D.failed source.old) (D.failed source.new) }
-    ensures cut { (tally : TheTally) → IfErr result (IsCutShort tally) }
+    ensures kinds { IfErr result (λ f. f ≢ SearchFault.Spent) }
 {
     let mut bytes = vec![in alloc; 0u8; PIECE]?;
     let mut spots = no_spots();
@@ -84,7 +83,7 @@ fn add_pieces<D: Device>(
     ensures unchanged { IsUnchanged D.tells D.size D.bytes D.unsettled source.old source.new }
     ensures count { CountsFailure is_search_failure result
         (D.failed source.old) (D.failed source.new) }
-    ensures cut { (tally : TheTally) → IfErr result (IsCutShort tally) }
+    ensures kinds { IfErr result (λ f. f ≢ SearchFault.Spent) }
 {
     for piece in 0..PIECES {
         add_piece(alloc, source, piece, bytes, spots)?;
@@ -107,7 +106,7 @@ fn add_piece<D: Device>(
     ensures unchanged { IsUnchanged D.tells D.size D.bytes D.unsettled source.old source.new }
     ensures count { CountsFailure is_search_failure result
         (D.failed source.old) (D.failed source.new) }
-    ensures cut { (tally : TheTally) → IfErr result (IsCutShort tally) }
+    ensures kinds { IfErr result (λ f. f ≢ SearchFault.Spent) }
 {
     let at = STEP * piece;
     let total = source.len();
@@ -141,43 +140,54 @@ fn add_fragments(
             return Ok(());
         }
         from = fragment.start + fragment.len;
-        add(
-            spots,
-            at + fragment.start as u64,
-            &fragment,
-            &bytes[fragment.start..from],
-        );
+        add(spots, at, bytes, &fragment);
     }
     Ok(())
 }
 
-/// Adds the fragment that stands at `at`, if there is room for it.
-fn add(spots: &mut Spots, at: u64, fragment: &Fragment, text: &[u8]) {
+/// Adds the fragment of these bytes, which stand at `at`, if there is room for it.
+fn add(spots: &mut Spots, at: u64, bytes: &[u8], fragment: &Fragment)
+    requires long { at + length bytes.now < 2 ^ 64 }
+    requires inside { fragment.now.start + fragment.now.len ≤ length bytes.now }
+{
+    let text = &bytes[fragment.start..fragment.start + fragment.len];
     let mut spot = Spot {
-        at,
+        at: at + fragment.start as u64,
         len: fragment.len,
         number: fragment.number,
         segment: None,
     };
     match fragment.kind {
-        Kind::Keyslot => keep(&mut spots.keyslots, spot),
+        Kind::Keyslot => keep(&mut spots.keyslots, spot, at, bytes),
         Kind::Digest => {
             spot.segment = first_segment(text);
-            keep(&mut spots.digests, spot);
+            keep(&mut spots.digests, spot, at, bytes);
         }
         Kind::Segment => {
             if encrypts(text) {
-                keep(&mut spots.segments, spot);
+                keep(&mut spots.segments, spot, at, bytes);
             }
         }
     }
 }
 
-/// Adds the spot, if there is room for it.
-fn keep(spots: &mut ArrayVec<Spot, 64>, spot: Spot) {
-    if !spots.is_full() {
+/// Adds the spot, if there is room for it, and the same wasn't seen in these bytes.
+fn keep(spots: &mut ArrayVec<Spot, 64>, spot: Spot, at: u64, bytes: &[u8]) {
+    if !spots.is_full() && !is_seen(spots, &spot, at, bytes) {
         spots.push(spot);
     }
+}
+
+/// Whether one of the spots has the same number and the same text in these bytes, which stand at `at`.
+fn is_seen(spots: &[Spot], spot: &Spot, at: u64, bytes: &[u8]) -> bool {
+    let text = text_of(spot, at, bytes);
+    spots.iter().any(|seen| seen.number == spot.number && text_of(seen, at, bytes) == text)
+}
+
+/// The text at the spot, if it lies in these bytes, which stand at `at`.
+fn text_of<'a>(spot: &Spot, at: u64, bytes: &'a [u8]) -> Option<&'a [u8]> {
+    let start = spot.at.checked_sub(at)? as usize;
+    bytes.get(start..)?.get(..spot.len)
 }
 
 /// The first segment that the digest names, by its text.
@@ -201,7 +211,7 @@ fn encrypts(segment: &[u8]) -> bool {
 /// The spot of the segment that a digest names, or else the first one that was seen.
 pub(crate) fn chosen_segment(segments: &[Spot], named: Option<u8>) -> Option<Spot> {
     for spot in segments {
-        if spot.number == named {
+        if named.is_some() && spot.number == named {
             return Some(*spot);
         }
     }

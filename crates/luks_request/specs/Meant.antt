@@ -18,8 +18,10 @@ names_place rebuilding = rebuilding.second || is_some rebuilding.size
 abbrev pub searches : Rebuilding → Bool
 searches rebuilding = is_some rebuilding.passphrase && rebuilding.thorough
 
--- such a field means LUKS1, and so does a passphrase by which nothing is sought; else such a place LUKS2; else it may be either
+-- The size of a data sector means LUKS2. Without it such a field means LUKS1, and so does a passphrase by which nothing is sought;
+-- else such a place LUKS2; else it may be either.
 abbrev pub meant_by : Rebuilding → Meant
 meant_by rebuilding =
-    if names_field rebuilding.luks1 || (is_some rebuilding.passphrase && not rebuilding.thorough) then Luks1
+    if is_some rebuilding.sector_size then Luks2
+    else if names_field rebuilding.luks1 || (is_some rebuilding.passphrase && not rebuilding.thorough) then Luks1
     else if names_place rebuilding then Luks2 else Either

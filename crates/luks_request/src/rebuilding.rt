@@ -23,8 +23,11 @@ pub struct Rebuilding<'a> {
     pub thorough: bool,
     /// The uuid of the new header; without one it is the volume's, or a new one.
     pub uuid: Option<&'a str>,
-    /// What else is given of a LUKS1 header.
+    /// What else is given of a LUKS1 header; where a data sector's size is given, the cipher and the payload are
+    /// those of a LUKS2 segment.
     pub luks1: Luks1Fields<'a>,
+    /// How long a data sector of a LUKS2 header's segment is, in bytes, where none stands whole.
+    pub sector_size: Option<u32>,
     /// Whether it may write over another volume's header, and over another use of the target.
     pub over: bool,
 }
@@ -49,7 +52,7 @@ pub struct Luks1Fields<'a> {
 pub enum Meant {
     /// LUKS1: a field that it alone has is given, or a passphrase without a search, which is tried on it alone.
     Luks1,
-    /// LUKS2: a copy is named by its place or its size.
+    /// LUKS2: the size of a data sector is given, or a copy is named by its place or its size.
     Luks2,
     /// Either: what stands says which.
     Either,
@@ -61,7 +64,9 @@ impl Rebuilding<'_> {
         ensures { result ≡ meant_by self.now }
     {
         let tries_alone = self.passphrase.is_some() && !self.thorough;
-        if names_field(&self.luks1) || tries_alone {
+        if self.sector_size.is_some() {
+            Meant::Luks2
+        } else if names_field(&self.luks1) || tries_alone {
             Meant::Luks1
         } else if self.second || self.size.is_some() {
             Meant::Luks2

@@ -1,2 +1,1 @@
-pub mod ListFacts
 pub mod PartFacts

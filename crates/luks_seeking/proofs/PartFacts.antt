@@ -1,10 +1,10 @@
 -- Fragments of a part of a volume are fragments of the volume.
-use Rattle.std.proofs.Common.{◌≡◌, ◌⊎◌, inl, inr, ℕ, ◌+◌, ◌-◌, ◌/◌, ◌%◌, ◌<◌, ◌≤◌, nat_lt, Bool, true, false, cond, List, [], ◌∷◌, ◌++◌, Option, Some, None, IfSome, IfNone, length, refl, sym, ap, subst, ◌∙◌, arith}
+use Rattle.std.proofs.Common.{◌≡◌, ◌⊎◌, inl, inr, ℕ, ◌+◌, ◌-◌, ◌/◌, ◌%◌, ◌<◌, ◌≤◌, nat_lt, Bool, true, false, cond, List, [], ◌∷◌, ◌++◌, Option, Some, None, IfSome, IfNone, length, sym, ap, subst, ◌∙◌, arith}
 use Rattle.luks_area.proofs.RangeFacts.{part-part, length-part_inside}
 use Rattle.luks_area.specs.Ranges.{part}
 use Rattle.luks_fragments.specs.Fragments.{HasFragmentAt, HasName, HasNoneFrom, IsFirstFragment, IsFragmentAt, IsNamedAt, quoted}
 use Rattle.luks_fragments.specs.declared.fragment.Fragment.{Fragment}
-use Rattle.luks_seeking.specs.Seeking.{FindsIn, IsFirstFound, PassesTo, found_at}
+use Rattle.luks_seeking.specs.Seeking.{found_at, FindsIn, HasNoneBetween, IsFirstFound}
 use Rattle.luks_fragments.specs.Kinds.{HasKind}
 use Rattle.luks_fragments.specs.Objects.{IsObjectAt, closed, opened}
 use Rattle.luks_fragments.specs.declared.kinds.Kind.{Kind}
@@ -134,7 +134,7 @@ module _ (v : List ℕ) (at len : ℕ) (inside : at + len ≤ length v) where
   pub none_up : (from : ℕ) → at + len ≡ length v → at ≤ from → HasNoneFrom (part v at len) (from - at) → HasNoneFrom v from
   none_up from all low x = λ p from_on y. x (p - at) (omega (arith, from_on)) (fragment_down (p - at) (inl all) (there p (omega (arith, low, from_on)) y))
 
-  pub passes_none : (from : ℕ) → 8192 ≤ len → at ≤ from → from ≤ at + 8 → HasNoneFrom (part v at len) (from - at) → PassesTo v from (at + (len - 4096))
+  pub passes_none : (from : ℕ) → 8192 ≤ len → at ≤ from → from ≤ at + 8 → HasNoneFrom (part v at len) (from - at) → HasNoneBetween v from (at + (len - 4096))
   passes_none from some low high x = record {
     on = omega (arith, some, high);
     none = λ p from_on before y.
@@ -142,10 +142,14 @@ module _ (v : List ℕ) (at len : ℕ) (inside : at + len ≤ length v) where
   }
 
   pub passes_first : (from : ℕ) (f : Fragment) → 8192 ≤ len → at ≤ from → from ≤ at + 8 → len - 4096 ≤ f.start
-      → IsFirstFragment (part v at len) (from - at) f → PassesTo v from (at + (len - 4096))
+      → IsFirstFragment (part v at len) (from - at) f → HasNoneBetween v from (at + (len - 4096))
   passes_first from f some low high far x = record {
     on = omega (arith, some, high);
     none = λ p from_on before y.
         x.first (p - at) (omega (arith, from_on)) (omega (arith, before, far, from_on, low))
         (fragment_down (p - at) (inr (omega (arith, before, some))) (there p (omega (arith, low, from_on)) y));
   }
+
+-- none begins behind the last byte
+pub none_behind : (v : List ℕ) (from : ℕ) → length v ≤ from → HasNoneFrom v from
+none_behind v from behind = λ p from_on x. (let inside = x.fragment.object.inside in let some = x.fragment.object.some in absurd (omega (arith, behind, from_on, inside, some)))

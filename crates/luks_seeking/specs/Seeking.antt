@@ -1,5 +1,5 @@
 -- What a step of the search for fragments of the device `v` tells.
-use Rattle.std.specs.Prelude.{◌≡◌, ℕ, ◌+◌, ◌<◌, ◌≤◌, List, [], ◌∷◌, ◌++◌, Bool, true, false, Option, Some, None}
+use Rattle.std.specs.Prelude.{ℕ, ◌+◌, ◌<◌, ◌≤◌, List, Bool, true, false, Option, Some, None}
 use Rattle.luks_fragments.specs.Fragments.{HasFragmentAt, HasName, HasNoneFrom, IsFirstFragment, IsFragmentAt}
 use Rattle.luks_fragments.specs.declared.fragment.Fragment.{Fragment}
 use Rattle.luks_seeking.specs.declared.fault.SeekFault.{SeekFault}
@@ -12,7 +12,6 @@ use Rattle.luks_seeking.specs.declared.seeking.Seek.TheVariants as seek
 abbrev pub is_seek_failure : SeekFault → Bool
 is_seek_failure fault.Memory = false
 is_seek_failure fault.Device = true
-is_seek_failure fault.Untold = false
 
 -- the first fragment from the place on
 pub record IsFirstFound (v : List ℕ) (from : ℕ) (f : Found) : Type 0 where
@@ -21,14 +20,14 @@ pub record IsFirstFound (v : List ℕ) (from : ℕ) (f : Found) : Type 0 where
   pub name : HasName v f.at f.number
   pub first : (p : ℕ) → from ≤ p → p < f.at → HasFragmentAt v p → ⊥
 
--- none begins before the next place
-pub record PassesTo (v : List ℕ) (from next : ℕ) : Type 0 where
-  pub on : from < next
+-- none begins from the place on and before the next one
+pub record HasNoneBetween (v : List ℕ) (from next : ℕ) : Type 0 where
+  pub on : from ≤ next
   pub none : (p : ℕ) → from ≤ p → p < next → HasFragmentAt v p → ⊥
 
 abbrev pub TellsSeek : List ℕ → ℕ → Seek → Type 0
 TellsSeek v from (seek.Fragment f) = IsFirstFound v from f
-TellsSeek v from (seek.On next) = PassesTo v from next
+TellsSeek v from (seek.On next) = HasNoneBetween v from next
 TellsSeek v from seek.End = HasNoneFrom v from
 
 -- on any device of `total` bytes: a step goes on, and what it tells lies inside
@@ -36,35 +35,6 @@ abbrev pub GoesOn : ℕ → ℕ → Seek → Type 0
 GoesOn total from (seek.Fragment f) = (from ≤ f.at) × (2 ≤ f.len) × (f.at + f.len ≤ total)
 GoesOn total from (seek.On next) = (from < next) × (next ≤ total)
 GoesOn total from seek.End = Unit {0}
-
--- The list has the fragments from the place on, in order. What begins inside of one isn't looked at.
-abbrev pub AreFragmentsFrom : List ℕ → ℕ → List Found → Type 0
-AreFragmentsFrom v from [] = HasNoneFrom v from
-AreFragmentsFrom v from (f ∷ fs) = IsFirstFound v from f × AreFragmentsFrom v (f.at + f.len) fs
-
--- the same of a part of the list: with what follows from the place `next` on it has all
-abbrev pub AreFragmentsTo : List ℕ → ℕ → ℕ → List Found → Type 0
-AreFragmentsTo v from next fs = (rest : List Found) → AreFragmentsFrom v next rest → AreFragmentsFrom v from (fs ++ rest)
-
--- what was told behind what was told before is some of the fragments, or all
-pub record ListsTo (v : List ℕ) (from next : ℕ) (old new : List Found) : Type 0 where
-  pub list : List Found
-  pub is : new ≡ old ++ list
-  pub all : AreFragmentsTo v from next list
-
-pub record ListsAll (v : List ℕ) (from : ℕ) (old new : List Found) : Type 0 where
-  pub list : List Found
-  pub is : new ≡ old ++ list
-  pub all : AreFragmentsFrom v from list
-
-pub record ListsSome (v : List ℕ) (from : ℕ) (old new : List Found) : Type 0 where
-  pub next : ℕ
-  pub lists : ListsTo v from next old new
-
--- nothing is told, and there is none
-pub record EndsAt (v : List ℕ) (from : ℕ) (old new : List Found) : Type 0 where
-  pub same : new ≡ old
-  pub none : HasNoneFrom v from
 
 -- a fragment of a part that begins at `start`, as one of the device
 abbrev pub found_at : ℕ → Fragment → Found

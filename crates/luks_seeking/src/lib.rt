@@ -1,10 +1,9 @@
-//! The keyslots, digests and segments of LUKS2 metadata that stand whole on a device, one after the other.
+//! The search of a device for the keyslots, digests and segments of LUKS2 metadata that stand whole on it.
 #![tactic(auto)]
 
 mod fault;
-mod listing;
 mod seeking;
 
-pub use fault::{SeekFault, Untold};
-pub use listing::{Listing, list};
-pub use seeking::{Found, Seek, seek};
+pub use fault::SeekFault;
+pub use luks_fragments::Kind;
+pub use seeking::{Found, LEAST_BLOCK, Seek, seek_from};

@@ -9,6 +9,9 @@ use luks_area::Device;
 use luks_fragments::{Fragment, Kind, next_fragment};
 use std::alloc::Global;
 
+/// How many bytes are read at once at least.
+pub const LEAST_BLOCK: usize = 8192;
+
 /// An object has no more bytes.
 const LONGEST: usize = 4096;
 
@@ -43,7 +46,7 @@ pub enum Seek {
 /// `block` has, which holds any bytes then.
 ///
 /// Takes memory for an area of 12288 bytes and its value. `Device` comes exactly where the device call failed.
-pub fn seek<D: Device>(
+pub fn seek_from<D: Device>(
     alloc: Global,
     device: &mut D,
     from: u64,

@@ -1,4 +1,4 @@
-use Rattle.std.proofs.Common.{◌∙◌, ℕ, ◌<◌, ap, subst, sym, arith, below_more}
+use Rattle.std.proofs.Common.{◌∙◌, ap, subst, sym, arith, below_more}
 use Rattle.luks_area.specs.Device.{unchanged-then}
 use Rattle.luks_trials.specs.Metadata.{AddsNone, IsMetaOf, OpensAt}
 use Rattle.luks_trials.specs.Turned.{turned}

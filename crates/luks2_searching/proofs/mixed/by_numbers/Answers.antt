@@ -1,4 +1,4 @@
-use Rattle.std.proofs.Common.{◌≡◌, ◌∙◌, ◌^◌, ◌≤◌, ℕ, length, refl, ap, subst, sym, arith, below_more}
+use Rattle.std.proofs.Common.{◌∙◌, ◌^◌, ◌≤◌, length, refl, ap, subst, sym, arith, below_more}
 use Rattle.std.proofs.Math.Pow.{pow_mono}
 use Rattle.luks_area.specs.Device.{unchanged-then}
 use Rattle.luks_trials.specs.Metadata.{AddsNone, IsMetaOf, OpensAt}

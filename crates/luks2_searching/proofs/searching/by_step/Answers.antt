@@ -1,4 +1,4 @@
-use Rattle.std.proofs.Common.{◌≡◌, ℕ, ◌<◌, ◌∙◌, slice_index, subst, sym, arith, below_more}
+use Rattle.std.proofs.Common.{◌∙◌, slice_index, subst, sym, arith, below_more}
 use Rattle.luks_area.specs.Device.{unchanged-then}
 use Rattle.luks_trials.proofs.OptionFacts.{none_where}
 use Rattle.luks_trials.proofs.TallyFacts.{counts_then}

@@ -1,4 +1,4 @@
-use Rattle.std.proofs.Common.{◌≡◌, ◌-◌, ◌∙◌, length, IfOk, IfSome, subst, sym}
+use Rattle.std.proofs.Common.{◌≡◌, ◌-◌, ◌∙◌, length, subst, sym}
 use Rattle.luks_rebuilding.specs.Candidates.{IsPlace}
 use Rattle.luks2_searching.specs.Found.{area_of, first_place, second_place, HasNoneOfBoth, IsFoundMixed}
 use Rattle.luks2_searching.proofs.FoundFacts.{found_mixed, there_in}

@@ -1,6 +1,6 @@
-use Rattle.std.proofs.Common.{◌∙◌, ℕ, ◌<◌, subst, sym, arith, below_more}
+use Rattle.std.proofs.Common.{◌∙◌, subst, sym, arith, below_more}
 use Rattle.luks_area.specs.Device.{unchanged-then}
-use Rattle.luks_trials.specs.Metadata.{IsMetaOf, OpensAt}
+use Rattle.luks_trials.specs.Metadata.{OpensAt}
 use Rattle.luks_trials.proofs.OptionFacts.{none_where}
 use Rattle.luks_trials.proofs.TallyFacts.{counts_then}
 use Rattle.luks2_searching.proofs.standing.as_it_stands.Goals as goal

@@ -38,7 +38,7 @@ returns-in-Ok-false-clause-answers g c =
     searched_luks2
     (λ told. subst (λ (m : Meant). SeeksLuks1 m (g.D.Device.bytes c.args.volume.now) → ⊥) c.meant-meant.ensures
     (λ seeks. true≢false (sym ((c.in-Ok-false.ensures.seeks told).1 seeks) ∙ c.in-Ok-false.field-0-test)))
-    (searched2_later g.D.Device.tells (allowed_by c.args.trying.now.rebuilding) (given_of c.args.trying.now.rebuilding) c.args.trying.now.passphrase.now c.args.random.now
+    (searched2_later g.D.Device.tells c.args.trying.now.rebuilding c.args.trying.now.passphrase.now c.args.random.now
     (pair_of g.D.Device.size g.D.Device.bytes g.D.Device.failed c.seeks_luks1.new.volume c.make_searched2.new.volume c.args.target.now c.make_searched2.new.target)
     (pair_of g.D.Device.size g.D.Device.bytes g.D.Device.failed c.args.volume.now c.make_searched2.new.volume c.args.target.now c.make_searched2.new.target) c.make_searched2.result
     (record {

@@ -1,5 +1,4 @@
-use Rattle.std.proofs.Common.{◌≡◌, ◌+◌, ◌≤◌, length, arith}
-use Rattle.luks_area.specs.Ranges.{part}
+use Rattle.std.proofs.Common.{length, arith, rules}
 use Rattle.luks_fragments.specs.Kinds.{HasKind}
 use Rattle.luks_fragments.specs.Objects.{IsObjectAt}
 use Rattle.luks_piecing.proofs.PartFacts.{text_there}

@@ -11,6 +11,3 @@ loop-piece-preserved g c = record {
 
 pub returns-in_err-add_piece-clause-unchanged : goal.returns-in_err-add_piece-clause-unchanged
 returns-in_err-add_piece-clause-unchanged g c = unchanged-then c.loop-piece.invariant.unchanged c.add_piece.ensures.unchanged
-
-pub returns-in_err-add_piece-clause-cut : goal.returns-in_err-add_piece-clause-cut
-returns-in_err-add_piece-clause-cut g c = λ tally. c.in_err-add_piece.ensures.cut tally
