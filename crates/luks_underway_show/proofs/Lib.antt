@@ -1,0 +1,7 @@
+mod Counting
+mod ItemFacts
+mod ReencryptFacts
+mod KeyslotFacts
+mod SegmentFacts
+mod ObjectFacts
+mod ValueFacts
