@@ -1,0 +1,6 @@
+mod Counting
+mod ItemFacts
+mod ReencryptFacts
+mod KeyslotFacts
+mod SegmentFacts
+mod ObjectFacts

@@ -1,0 +1,8 @@
+use Rattle.std.proofs.Common.{map}
+use Rattle.serde_json.specs.View.{view}
+use Rattle.luks_wider.specs.Underways.{content}
+use Rattle.luks_underway_show.specs.KeyslotValues.{AreKeyslots}
+use Rattle.luks_underway_show.proofs.as_json.keyslots.keyslots_value.Given as goal
+
+abbrev pub invariant-loop-n : goal.invariant-loop-n
+invariant-loop-n l = AreKeyslots (content l.meta) l.n (map view l.items.items)

@@ -1,0 +1,13 @@
+use Rattle.std.proofs.Common.{◌≡◌, ◌+◌, ◌∙◌, ap, map, subst, sym}
+use Rattle.std.proofs.lemmas.List.{map-append}
+use Rattle.serde_json.specs.View.{view}
+use Rattle.luks_wider.specs.Underways.{content}
+use Rattle.luks_underway_show.specs.WideSegmentValues.{AreWideSegments, IsWideSegmentValue, listed, passed}
+use Rattle.luks_underway_show.proofs.as_json.segments.add_segment.Goals as goal
+
+pub returns : goal.returns
+returns c = λ before.
+    let j = content c.args.meta.now in
+    let one : IsWideSegmentValue j c.args.n (view c.in-Some.value) = rw c.in-Some.is at c.in_ok-value.ensures in
+    let items = ap (map view) c.in_ok-push.ensures.items ∙ map-append view _ _ in
+    subst (AreWideSegments j (c.args.n + 1)) (sym items) (listed before one)

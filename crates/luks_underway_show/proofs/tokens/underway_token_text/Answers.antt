@@ -1,0 +1,32 @@
+-- What is shown is the text of the token that stands there.
+use Rattle.std.proofs.Common.{◌≡◌, ◌∙◌, ap, rules, string_bytes, Some}
+use Rattle.std.proofs.lemmas.Str.{IsUtf8-string_bytes}
+use Rattle.serde_json.specs.View.{view}
+use Rattle.luks_rules.specs.declared.table.Section.TheVariants.{Tokens}
+use Rattle.luks_rules.specs.Faults.{object_at}
+use Rattle.luks_show.specs.Steering.{unsteering}
+use Rattle.luks_show.specs.TokenText.{IsTokenText}
+use Rattle.luks_show.proofs.SteeringFacts.{unsteering_steerless}
+use Rattle.luks_wider.specs.Underways.{content}
+use Rattle.luks_underway_show.proofs.tokens.underway_token_text.Goals as goal
+
+pub returns : goal.returns
+returns c =
+    let token = view c.in-Some.token.now in
+    let there : object_at (content c.args.meta.now) Tokens c.args.number ≡ Some token = search rules in
+    let written = string_bytes c.in_ok-written.written in
+    let text = string_bytes c.in_ok-unsteering.field-0 in
+    let same : c.as_str.result.now ≡ written = search rules in
+    let made : text ≡ unsteering written = c.in_ok-unsteering.ensures ∙ ap unsteering same in (
+      token,
+      (
+        there,
+        record {
+          written = written;
+          compact = search rules;
+          back = search rules;
+          escaped = made;
+          plain = unsteering_steerless written text (IsUtf8-string_bytes c.in_ok-unsteering.field-0) made;
+        },
+      ),
+    )

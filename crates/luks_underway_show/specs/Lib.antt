@@ -1,0 +1,10 @@
+pub mod Shown
+pub mod KeyslotLines
+pub mod SegmentLines
+pub mod RecordLines
+pub mod UnderwayLines
+pub mod KeyslotValues
+pub mod WideSegmentValues
+pub mod UnderwayValue
+pub mod UnderwayJson
+pub mod Tokens

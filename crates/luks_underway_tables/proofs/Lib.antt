@@ -1,0 +1,3 @@
+mod Least
+mod PartFacts
+mod Places

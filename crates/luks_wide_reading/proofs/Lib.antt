@@ -1,0 +1,3 @@
+pub mod WideUnread
+pub mod UnderwayPlans
+pub mod VolumeFacts

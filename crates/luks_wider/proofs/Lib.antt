@@ -1,0 +1,12 @@
+pub mod WideOrder
+pub mod WideWalking
+pub mod WideRowFaults
+pub mod WideAccepting
+pub mod WideRefusing
+pub mod WideAreaFaults
+pub mod WideListed
+pub mod Finding
+pub mod WiderFacts
+pub mod UnderWayFaults
+pub mod WideNamings
+pub mod Reencrypting

@@ -1,0 +1,10 @@
+use Rattle.std.proofs.Common.{◌≡◌, drop, map}
+use Rattle.std.specs.Prelude.{find}
+use Rattle.serde_json.specs.View.{view}
+use Rattle.luks_wider.specs.Places.{wide_row_fault}
+use Rattle.luks_wider.specs.declared.rows.WideRow.TheVariants.{Known}
+use Rattle.luks_wider.proofs.walk.first_known.Given as goal
+
+abbrev pub invariant-loop-row : goal.invariant-loop-row
+invariant-loop-row l = find (wide_row_fault l.test l.section (view l.value) (view l.object)) (map Known l.rows)
+    ≡ find (wide_row_fault l.test l.section (view l.value) (view l.object)) (map Known (drop l.row-index l.rows))
