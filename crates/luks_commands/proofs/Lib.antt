@@ -9,6 +9,7 @@ pub mod Fronts
 pub mod KeyFacts
 pub mod OpenFacts
 pub mod StandingFacts
+pub mod UnderwayFacts
 mod ShowFacts
 mod SearchFacts
 pub mod ReencryptionFacts

@@ -6,6 +6,7 @@ pub mod Searched
 pub mod Checked
 pub mod UnderwayTexts
 pub mod Answer
+pub mod UnderwayAnswers
 pub mod Beside
 pub mod CheckAnswers
 pub mod Chosen
@@ -15,5 +16,6 @@ pub mod KeyAnswers
 pub mod FormatAnswers
 pub mod Standing
 pub mod Turns
+pub mod UnderwayShown
 pub mod ShowAnswers
 pub mod Reencrypting
