@@ -40,8 +40,9 @@ use Rattle.luks_commands.specs.declared.answers.Answer.{Answer}
 use Rattle.luks_commands.specs.declared.answers.Answer.TheVariants.{Listed, ListedFully, Mapped, Tokens, Json, Refused, DeviceFault, NoMemory}
 use Rattle.luks_commands.specs.declared.answers.Refusal.TheVariants.{Check, Edit}
 use Rattle.luks_commands.specs.Answer.{check_fault_answer}
-use Rattle.luks_commands.specs.UnderwayAnswers.{IsLost}
-use Rattle.luks_commands.proofs.UnderwayFacts.{accepted_not_under_way, check_lost, narrow_unread, unread_outside}
+use Rattle.luks_commands.specs.Lost.{IsLost}
+use Rattle.luks_commands.proofs.NotUnderway.{read_narrow, unread_narrow}
+use Rattle.luks_commands.proofs.UnderwayFacts.{check_lost, narrow_unread}
 use Rattle.luks_commands.specs.ShowAnswers.{IsBeforeAreas, IsAsJson, IsAsMap, IsAsTables, IsAsToken, IsAsTokens, IsFirstShowFault, IsFullAnswer, IsHeaderAnswer, IsInFull, IsJsonAnswer, IsListedAnswer, IsMapAnswer, IsShowAnswer, IsShowFault, IsShown, IsShownAs, IsTablesAnswer, IsTokenAnswer, IsTokensAnswer, IsVolumeShown}
 
 -- the first fault of a check is the first that refuses a listing, unless it is one of the areas
@@ -211,7 +212,7 @@ shown_answer AsJson total tells v before after answer a long made is = json_answ
 
 -- ---- in each form, of a volume
 
--- an answer that isn't one of the volume stays
+-- an answer that was lost stays
 lost_stays : (form : ShowAs) (total : ℕ) (answer a : Answer) → IsShownAs form total answer a → IsLost answer → IsLost a
 lost_stays Lines total answer a made lost = subst IsLost (sym made) lost
 lost_stays All total DeviceFault a made lost = subst IsLost (sym made) tt
@@ -234,7 +235,7 @@ pub shows_header : (form : ShowAs) (total : ℕ) (tells : Type 0) (v : List ℕ)
     → IsVolumeShown form tells v before after a
 shows_header form total tells v before after h answer a long count is shown made = inl (
   shown_answer form total tells v before after answer a long made (header_listed tells v before after h answer count is shown),
-  λ t u. absurd (accepted_not_under_way v h (is t) u),
+  λ t u. absurd (read_narrow v h (is t) u),
 )
 
 -- one that isn't read for something else than what is under way
@@ -244,5 +245,5 @@ pub shows_unread : (form : ShowAs) (total : ℕ) (tells : Type 0) (v : List ℕ)
 shows_unread form total tells v before after f a long count is made =
     let answer = check_fault_answer (unread_checked f) in inl (
       shown_answer form total tells v before after answer a long made (answers_unread tells v before after f count (λ t. narrow_unread v f (is t))),
-      λ t u. lost_stays form total answer a made (check_lost f (unread_outside v f (is t) u)),
+      λ t u. lost_stays form total answer a made (check_lost f (unread_narrow v f (is t) u)),
     )

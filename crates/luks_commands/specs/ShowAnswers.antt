@@ -26,7 +26,7 @@ use Rattle.luks_show.specs.JsonText.{IsJsonText}
 use Rattle.luks_show.specs.TokenText.{IsShownToken}
 use Rattle.luks_show.specs.declared.tokens.TokenListing.{TokenListing}
 use Rattle.luks_commands.specs.Answer.{unread_answer}
-use Rattle.luks_commands.specs.UnderwayAnswers.{IsLost}
+use Rattle.luks_commands.specs.Lost.{IsLost}
 use Rattle.luks_commands.specs.UnderwayShown.{IsUnderwayShowAnswer}
 use Rattle.luks_wide_reading.specs.Headers.{IsUnderWayVolume}
 
