@@ -157,17 +157,15 @@ fn show_device<D: Device, E: Write>(
     ensures answers { IsVolumeShown form D.tells (D.bytes device.old)
         (D.failed device.old) (D.failed device.new) result }
 {
-    let read = read_wide_header(alloc, device);
-    let total = device.len();
-    let answer = match read {
+    let answer = match read_wide_header(alloc, device) {
         Ok(WideHeader::Narrow(header)) => listed(header, name, err),
-        Ok(WideHeader::Underway(copy)) => return show_underway(alloc, form, total, copy),
+        Ok(WideHeader::Underway(copy)) => return show_underway(alloc, form, device.len(), copy),
         Err(WideReadFault::Read(fault)) => refused(CheckFault::from(fault), name, err),
         Err(WideReadFault::Underway { fault, .. }) => {
             return Answer::Refused(Refusal::Underway(UnderwayRefusal::Metadata(fault)));
         }
     };
-    shown_as(alloc, form, total, answer)
+    shown_as(alloc, form, device.len(), answer)
 }
 
 /// The answer by lines of a header in which nothing is under way.
