@@ -18,9 +18,9 @@ use luks_reading::{CheckFault, Device, Header, Luks1};
 use luks_request::ShowAs;
 use luks_show::{FullListing, Listing, TokenListing, json_text, token_text};
 use luks_wide_reading::{WideHeader, WideReadFault, read_wide_header};
-use underway::show_underway;
 use std::alloc::Global;
 use std::io::Write;
+use underway::show_underway;
 
 /// Answers what the header of the volume of this name says, in this form.
 ///

@@ -49,11 +49,7 @@ fn map(copy: &UnderwayCopy, total: u64) -> Answer
     ensures answers { IsCopyMapped copy.now total result }
     ensures kinds { answer_status result ≢ Status.NotInStep }
 {
-    Answer::Mapped(HeaderMap::of_underway(
-        copy.header.hdr_size,
-        &copy.meta,
-        total,
-    ))
+    Answer::Mapped(HeaderMap::of_underway(copy.header.hdr_size, &copy.meta, total))
 }
 
 /// The text of the token with this number, or that there is none.

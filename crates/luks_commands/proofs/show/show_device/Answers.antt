@@ -23,17 +23,23 @@ returns-clause-answers g c =
     ]
 
 pub returns-in-Ok-Underway-clause-answers : goal.returns-in-Ok-Underway-clause-answers
-returns-in-Ok-Underway-clause-answers g c = inr (c.in-Ok-Underway.ensures.count, inl (record {
-  copy = c.in-Ok-Underway.copy;
-  total = c.len.result;
-  shown = c.show_underway.ensures.answers;
-  is = λ tells. subst (IsWideHeader (g.D.Device.bytes c.args.device.now)) c.in-Ok-Underway.field-0-is (c.in-Ok-Underway.ensures.read tells);
-  long = λ tells. g.met.D.Device.sized c.args.device.now tells ∙ sym c.in-Ok-Underway.ensures.unchanged.size ∙ sym c.len.ensures;
-}))
+returns-in-Ok-Underway-clause-answers g c = inr (
+  c.in-Ok-Underway.ensures.count,
+  inl (record {
+    copy = c.in-Ok-Underway.copy;
+    total = c.len.result;
+    shown = c.show_underway.ensures.answers;
+    is = λ tells. subst (IsWideHeader (g.D.Device.bytes c.args.device.now)) c.in-Ok-Underway.field-0-is (c.in-Ok-Underway.ensures.read tells);
+    long = λ tells. g.met.D.Device.sized c.args.device.now tells ∙ sym c.in-Ok-Underway.ensures.unchanged.size ∙ sym c.len.ensures;
+  }),
+)
 
 pub returns-in-Err-Underway-clause-answers : goal.returns-in-Err-Underway-clause-answers
-returns-in-Err-Underway-clause-answers g c = inr (c.in-Err-Underway.ensures.count, inr (record {
-  fault = c.in-Err-Underway.fault;
-  is = refl;
-  first = λ tells. (_, subst (IsWideUnread (g.D.Device.bytes c.args.device.now)) c.in-Err-Underway.field-0-is (c.in-Err-Underway.ensures.refused tells));
-}))
+returns-in-Err-Underway-clause-answers g c = inr (
+  c.in-Err-Underway.ensures.count,
+  inr (record {
+    fault = c.in-Err-Underway.fault;
+    is = refl;
+    first = λ tells. (_, subst (IsWideUnread (g.D.Device.bytes c.args.device.now)) c.in-Err-Underway.field-0-is (c.in-Err-Underway.ensures.refused tells));
+  }),
+)
