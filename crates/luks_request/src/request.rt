@@ -90,6 +90,8 @@ pub enum ShowAs {
     Token(u8),
     /// A map of its areas.
     Map,
+    /// Lines for dmsetup, of a volume under way.
+    Tables,
     /// One JSON object, for scripts.
     Json,
 }
