@@ -90,7 +90,7 @@ pub enum ShowAs {
     Token(u8),
     /// A map of its areas.
     Map,
-    /// Lines for dmsetup, of a volume under way.
+    /// The table of dmsetup by which its data is read, where something is under way in it.
     Tables,
     /// One JSON object, for scripts.
     Json,
