@@ -4,6 +4,7 @@ pub mod FirstLine
 pub mod Printing
 pub mod Searched
 pub mod Checked
+pub mod UnderwayTexts
 pub mod Answer
 pub mod Beside
 pub mod CheckAnswers
