@@ -12,6 +12,7 @@ ghost use Rattle.luks_commands.specs.OpenAnswers.{any_answer, AnswersOpen, IsAns
 mod almost_met;
 mod searching;
 mod underway;
+mod underway_untried;
 
 use crate::answers::{Answer, Refusal, Status, unread};
 use crate::inputs::Inputs;

@@ -8,6 +8,7 @@ ghost use Rattle.luks_wide_reading.specs.Headers.{IsUnderwayCopy};
 
 use super::almost_met::note_unopened;
 use super::searching::note_unread;
+use super::underway_untried::{Ground, note_all_wanting, note_fault, note_passed_over};
 use crate::answers::{Answer, Refusal, Status};
 use crate::underway_refusal::UnderwayRefusal;
 use luks_reading::{Allowed, Device, OpenFault};
@@ -85,7 +86,10 @@ fn open_named<D: Device, E: Write>(
             note_unopened(nearest, passphrase, err);
             Answer::Closed(n)
         }
-        Err(fault) => refused_keyslot(fault),
+        Err(fault) => {
+            note_fault(&ground_of(trial, device.len()), n, fault, err);
+            refused_keyslot(fault)
+        }
     }
 }
 
@@ -128,9 +132,24 @@ fn open_first<D: Device, E: Write>(
         }
         Ok(None) => {
             note_unopened(nearest, passphrase, err);
+            note_passed_over(&ground_of(trial, device.len()), err);
             Answer::NoneOpens
         }
-        Err(fault) => Answer::from(fault),
+        Err(fault) => {
+            if let OpenFault::Memory = fault {
+                note_all_wanting(&ground_of(trial, device.len()), err);
+            }
+            Answer::from(fault)
+        }
+    }
+}
+
+/// On what the keyslots are tried, in a volume of so many bytes.
+fn ground_of<'a>(trial: &UnderwayTrial<'a>, total: u64) -> Ground<'a> {
+    Ground {
+        meta: &trial.copy.meta,
+        total,
+        allowed: trial.allowed,
     }
 }
 
