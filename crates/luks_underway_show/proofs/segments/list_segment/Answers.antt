@@ -28,7 +28,7 @@ returns-in_default g c plain ok =
     let none : object_at j Segments c.args.n ≡ None = search rules in
     has_written_of_eq _ _ _ _ _ (object_missing (segment_lines c.args.lines) j Segments c.args.n none) (search rules)
 
-pub returns-in_default-2 : goal.returns-in_default-2
-returns-in_default-2 g c plain ok =
+pub returns-in_default-segment : goal.returns-in_default-segment
+returns-in_default-segment g c plain ok =
     let j = content c.args.meta.now in
-    has_written_of_eq _ _ _ _ _ (object_missing (segment_lines c.args.lines) j Segments c.args.n (c.in_default-2.ensures.none refl c.requires)) (search rules)
+    has_written_of_eq _ _ _ _ _ (object_missing (segment_lines c.args.lines) j Segments c.args.n (c.in_default-segment.ensures.none refl c.requires)) (search rules)

@@ -11,7 +11,7 @@ returns-in-Some g c plain ok =
     let told = c.in-Some.ensures.some in
     has_written_of_eq _ _ _ _ _
     (token_told c.args.n told.object c.in-Some.token told.tells_members ∙ object_there token_listed (content c.args.meta.now) Tokens c.args.n told.object told.is)
-    (c.write.ensures plain ok)
+    (c.write.ensures.writes plain ok)
 
 pub returns-in-None : goal.returns-in-None
 returns-in-None g c plain ok =
