@@ -1,5 +1,5 @@
 -- The lines of a keyslot, by its record.
-use Rattle.std.proofs.Common.{◌≡◌, ℕ, List, [], ◌∷◌, ◌++◌, codes, Option, Some, None, refl, ap₂, append_assoc}
+use Rattle.std.proofs.Common.{◌≡◌, ℕ, List, ◌++◌, codes, Option, Some, refl, ap₂, append_assoc}
 use Rattle.std.specs.Fmt.{decimal}
 use Rattle.serde_json.specs.Data.{Data}
 use Rattle.luks_rules.specs.declared.table.Outer.TheVariants as outer

@@ -1,5 +1,5 @@
 -- The objects of keyslots and segments, by their records.
-use Rattle.std.proofs.Common.{◌≡◌, ℕ, ◌<◌, Option, Some, None, option_and_then, sym, ap, ◌∙◌, true, Bool, false}
+use Rattle.std.proofs.Common.{◌≡◌, ℕ, ◌<◌, Option, Some, sym, ap, ◌∙◌, true}
 use Rattle.std.proofs.lemmas.Bool.{false≢true}
 use Rattle.serde_json.specs.Data.{Data, object}
 use Rattle.luks_rules.specs.declared.table.Section.TheVariants.{Keyslots, Segments}

@@ -1,4 +1,4 @@
-use Rattle.std.proofs.Common.{◌≡◌, ◌+◌, ◌∙◌, ap, map, subst, sym}
+use Rattle.std.proofs.Common.{◌+◌, ◌∙◌, ap, map, subst, sym}
 use Rattle.std.proofs.lemmas.List.{map-append}
 use Rattle.serde_json.specs.View.{view}
 use Rattle.luks_rules.specs.declared.table.Section.TheVariants.{Keyslots}

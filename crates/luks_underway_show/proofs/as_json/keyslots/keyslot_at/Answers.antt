@@ -1,4 +1,3 @@
-use Rattle.std.proofs.Common.{◌≡◌}
 use Rattle.serde_json.specs.View.{view}
 use Rattle.luks_wider.specs.Underways.{content}
 use Rattle.luks_underway_show.proofs.ValueFacts.{key_value, reencryption_value}
