@@ -21,4 +21,4 @@ returns g c plain ok =
     has_written_of_eq _ _ _ _ _
     (part_told c.args.end c.args.place c.sectors_of-sectors.result c.digest_of.result told.object c.in-Some.segment told.tells_members c.sectors_of-sectors.ensures.are (search rules)
     ∙ part_there c.args.end c.args.place c.args.n c.digest_of.result (content c.args.meta.now) told.object told.is (c.digest_of.ensures ∙ ap (λ j. segment_digest j c.args.n) c.value.ensures))
-    (c.write.ensures plain ok)
+    (c.write.ensures.writes plain ok)
