@@ -6,6 +6,7 @@ pub mod Searched
 pub mod Checked
 pub mod UnderwayTexts
 pub mod Answer
+pub mod Lost
 pub mod Beside
 pub mod CheckAnswers
 pub mod Chosen
