@@ -1,3 +1,5 @@
+pub mod UnderwayRefused
+pub mod UnderwayTexts
 pub mod TwoFiles
 pub mod BackingUp
 pub mod Restoring

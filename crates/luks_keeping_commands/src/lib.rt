@@ -11,6 +11,7 @@ mod keyslots_note;
 mod made_file;
 pub mod restore;
 pub mod token;
+mod underway;
 mod volume_use;
 
 pub use made_file::{MakesFile, Unmade};

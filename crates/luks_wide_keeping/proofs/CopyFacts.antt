@@ -79,8 +79,8 @@ module _ (v : List ℕ) (c : UnderwayCopy) (is : IsUnderwayCopy v c) where
     is = x.is ∙ ap (λ (n : ℕ). 2 * n + x.region) (sym bytes_are);
   }
 
-  pub backup_size : (size : ℕ) → IsWholeSize c size → IsBackupSize v Elsewhere size
-  backup_size size x = record { choice = luks2 c.header.hdr_offset c.copies; chosen = is.chosen; is = size_there size x }
+  pub backup_size : (payload : Data) (size : ℕ) → IsWholeSize c size → IsBackupSize v payload size
+  backup_size payload size x = record { choice = luks2 c.header.hdr_offset c.copies; chosen = is.chosen; is = size_there size x }
 
   -- ---- a volume that has its header
 

@@ -3,3 +3,4 @@ pub mod CopyFacts
 pub mod PlacesFacts
 pub mod StandingFacts
 pub mod MadeFacts
+pub mod RestoredFacts

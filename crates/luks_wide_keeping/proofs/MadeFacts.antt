@@ -1,13 +1,15 @@
 -- What copying both copies of a header and the whole region makes.
-use Rattle.std.proofs.Common.{◌≡◌, ℕ, ◌+◌, ◌*◌, ◌-◌, ◌<◌, ◌≤◌, List, Some, length, min, replicate, get_or, refl, sym, ap, subst, ◌∙◌, arith, inl, inr}
-use Rattle.std.proofs.lemmas.Bool.{cases_lt}
+use Rattle.std.proofs.Common.{◌≡◌, ℕ, ◌+◌, ◌*◌, ◌-◌, ◌<◌, ◌≤◌, List, Some, length, true, false, min, replicate, get_or, refl, sym, ap, subst, ◌∙◌, arith, inl, inr, Result, Ok, Err, IfOk, OnOk}
+use Rattle.std.proofs.lemmas.Bool.{cases_lt, true≢false}
 use Rattle.std.proofs.lemmas.List.{get_or_past}
 use Rattle.luks_area.specs.First.{NotAfter, IsLeast}
 use Rattle.luks_area.specs.Ranges.{part, IsAt, IsOfEither, SameBut}
 use Rattle.luks_area.proofs.RangeFacts.{same_but-wider}
+use Rattle.luks2_header.proofs.ChoiceFacts.{choices_agree}
 use Rattle.luks2_header.specs.Header2.{hdr_size, header_at}
 use Rattle.luks2_header.specs.Selection.{luks2}
 use Rattle.luks_reading.specs.Checked.{check_key}
+use Rattle.luks_reading.specs.Failures.{is_check_failure}
 use Rattle.luks_reading.specs.declared.check_fault.CheckFault.{CheckFault}
 use Rattle.luks_reading.specs.declared.check_fault.CheckFault.TheVariants as check
 use Rattle.luks_reading.specs.declared.report.Data.{Data}
@@ -30,11 +32,8 @@ use Rattle.luks_wide_keeping.specs.Backup.{CanBackUpUnderway, IsUnderwayBackup, 
 use Rattle.luks_wide_keeping.specs.Layout.{FitsUnderway, IsUnderwayFault}
 use Rattle.luks_wide_keeping.specs.Restored.{IsOfUnderway, IsUnderwayRestored}
 use Rattle.luks_wide_keeping.specs.Whole.{IsWholeLaid, IsWholeSize}
-use Rattle.luks_wide_keeping.proofs.CopyFacts.{backup_size, bytes_are, large, size_there}
-use Rattle.luks_wide_keeping.proofs.PlacesFacts.{byte_held, lead_small, not_of_places, of_places, whole_below}
-
-some_number : (a b : ℕ) → Some a ≡ Some b → a ≡ b
-some_number a b e = cc
+use Rattle.luks_wide_keeping.proofs.CopyFacts.{backup_size, bytes_are, copy_there, large, size_there}
+use Rattle.luks_wide_keeping.proofs.PlacesFacts.{byte_held, lead_small, not_of_places, of_places, whole_below, whole_region}
 
 module _ (v : List ℕ) (c : UnderwayCopy) (is : IsUnderwayCopy v c) (total : ℕ) (places : Places) (laid : IsWholeLaid c total places) (room : 2 * c.header.hdr_size ≤ total) where
   lead_is : places.lead ≡ lead_of c.copies
@@ -56,12 +55,6 @@ module _ (v : List ℕ) (c : UnderwayCopy) (is : IsUnderwayCopy v c) (total : �
   }
 
   -- ---- the size
-
-  one_region : (size : ℕ) → IsWholeSize c size → size ≡ 2 * c.header.hdr_size + laid.region
-  one_region size x =
-      let region : x.region ≡ laid.region = some_number x.region laid.region (sym x.says ∙ laid.says) in
-      let all = x.is in
-      omega (arith, region, all)
 
   pub whole : IsWholeSize c (2 * c.header.hdr_size + laid.region)
   whole = record { region = laid.region; says = laid.says; is = refl }
@@ -85,7 +78,7 @@ module _ (v : List ℕ) (c : UnderwayCopy) (is : IsUnderwayCopy v c) (total : �
       kept : (p : ℕ) → lead_of c.copies ≤ p → p < size → get_or w p 0 ≡ get_or v p 0
       kept p low high = elim (cases_lt p total) [
         | inl there ↦ (
-            let all = one_region size sized in
+            let all = whole_region c total places laid room size sized in
             let lead = lead_is in
             byte_held c total places laid room v w held p (of_places c total places laid room p (omega (arith, low, lead)) (omega (arith, high, all)) there))
         | inr past ↦ others p high (not_of_places c total places laid room p past) ∙ sym (get_or_past v p 0 (omega (arith, past, long)))
@@ -125,8 +118,17 @@ module _ (v : List ℕ) (c : UnderwayCopy) (is : IsUnderwayCopy v c) (total : �
       rest = changed rest;
     }
 
-pub of_backup : (v : List ℕ) (c : UnderwayCopy) → IsUnderwayCopy v c → (size : ℕ) → IsWholeSize c size → {u w : List ℕ} → SameBut (IsAt 0 size) u w → SameBut (IsOfBackup v Elsewhere) u w
-of_backup v c is size sized same = same_but-wider (λ p at. record { size = size; is_size = backup_size v c is size sized; at = at }) same
+-- whatever was read of the volume is read of what has its header
+pub reads_there : (v w : List ℕ) (a c : UnderwayCopy) → IsUnderwayCopy v a → HasHeader v (luks2 a.header.hdr_offset a.copies) w → 2 * a.header.hdr_size ≤ length v → 2 * a.header.hdr_size ≤ length w
+    → IsUnderwayCopy v c → IsUnderwayCopy w c
+reads_there v w a c own has here there is =
+    let same : luks2 a.header.hdr_offset a.copies ≡ luks2 c.header.hdr_offset c.copies = choices_agree v (luks2 a.header.hdr_offset a.copies) (luks2 c.header.hdr_offset c.copies) own.chosen is.chosen in
+    let place : a.header.hdr_offset ≡ c.header.hdr_offset = cc in
+    let size : c.header.hdr_size ≡ a.header.hdr_size = sym (bytes_are v c is) ∙ ap (λ (o : ℕ). hdr_size (header_at v o)) (sym place) ∙ bytes_are v a own in
+    copy_there v c is w (subst (λ k. HasHeader v k w) same has) (omega (arith, size, here)) (omega (arith, size, there))
+
+pub of_backup : (v : List ℕ) (c : UnderwayCopy) → IsUnderwayCopy v c → (payload : Data) (size : ℕ) → IsWholeSize c size → {u w : List ℕ} → SameBut (IsAt 0 size) u w → SameBut (IsOfBackup v payload) u w
+of_backup v c is payload size sized same = same_but-wider (λ p at. record { size = size; is_size = backup_size v c is payload size sized; at = at }) same
 
 -- ---- the faults
 
@@ -137,6 +139,14 @@ unmade_layout v total f least = (least.0, after)
     after (NotAccepted g) bad = (omega arith, λ e. least.1 g bad)
     after TooSmall bad = (omega arith, λ e. absurd (omega (arith, e)))
     after other bad = absurd bad
+
+-- what the layout is refused for, as the fault of a backup
+pub unmade_checked : (v : List ℕ) (total : ℕ) (f : CheckFault) → is_check_failure f ≡ false → IsLeast check_key (IsUnderwayFault v Elsewhere (length v)) f → IsUnderwayUnmade v total (checked_backup f)
+unmade_checked v total (check.Head f) own least = unmade_layout v total (check.Head f) least
+unmade_checked v total (check.Meta f) own least = unmade_layout v total (check.Meta f) least
+unmade_checked v total (check.Area f) own least = unmade_layout v total (check.Area f) least
+unmade_checked v total check.Device own least = absurd (true≢false own)
+unmade_checked v total check.Memory own least = absurd (true≢false own)
 
 pub unmade_short : (v : List ℕ) (total : ℕ) → FitsUnderway v Elsewhere (length v) → IsShort v Elsewhere total → IsUnderwayUnmade v total TooSmall
 unmade_short v total fits short = (short, after)
@@ -153,3 +163,7 @@ can_back_up v total size fits is room = record { none = none }
     none (NotAccepted f) bad = fits.none f bad
     none TooSmall bad = (let same = one_size v Elsewhere bad.size size bad.is_size is in let short = bad.short in omega (arith, same, short, room))
     none other bad = bad
+
+pub length_made : (v : List ℕ) (total : ℕ) → FitsUnderway v Elsewhere (length v) → (r : Result ℕ BackupFault) → IfOk r (IsBackupSize v Elsewhere) → IfOk r (λ size. size ≤ total) → OnOk r (CanBackUpUnderway v total)
+length_made v total fits (Ok size) is room = can_back_up v total size fits is room
+length_made v total fits (Err f) is room = tt

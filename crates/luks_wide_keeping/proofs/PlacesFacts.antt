@@ -11,7 +11,7 @@ use Rattle.luks_keeping.specs.Kept.{lead_of}
 use Rattle.luks_keeping.specs.Places.{header_end, AreApart, AreInside, HasPlace, HoldsAll, IsOfPlaces, IsOfWhole}
 use Rattle.luks_keeping.specs.declared.places.Places.{Places}
 use Rattle.luks_wide_reading.specs.declared.copy.UnderwayCopy.{UnderwayCopy}
-use Rattle.luks_wide_keeping.specs.Whole.{IsWholeLaid}
+use Rattle.luks_wide_keeping.specs.Whole.{IsWholeLaid, IsWholeSize}
 
 -- ---- one area
 
@@ -53,6 +53,13 @@ module _ (c : UnderwayCopy) (total : ℕ) (places : Places) (laid : IsWholeLaid 
 
   pub lead_sector : places.lead ≤ min 512 places.first
   lead_sector = (let small = lead_small c.copies in let lead = laid.lead in let first = laid.first in omega (arith, lead, first, small))
+
+  -- the size that is known is that of these places
+  pub whole_region : (size : ℕ) → IsWholeSize c size → size ≡ 2 * c.header.hdr_size + laid.region
+  whole_region size x =
+      let region : x.region ≡ laid.region = some_same x.region laid.region (sym x.says ∙ laid.says) in
+      let all = x.is in
+      omega (arith, region, all)
 
   -- what ends with the region
   region_at : (n : ℕ) (a : Area) → HasPlace places n a → a ≡ laid.area

@@ -111,3 +111,37 @@ module _ (b t : List ℕ) (here there : Bin2) (copies others : Copies) (own : Is
 
   pub luks2_progressed : selected_uuid (V2 there others) ≡ here.uuid → (IsSameMetadata b t here there → ⊥) → StandsSo b t Progressed
   luks2_progressed uuid differ = (one_uuid b t here copies (V2 there others) own counts uuid, λ x. differ (same_metadata x))
+
+-- ---- one standing
+
+any_of_one : (b t : List ℕ) → HasOneUuid b t → HasAnyHeader t
+any_of_one b t x = record { choice = x.other; counts = x.counts; some = x.some }
+
+one_of_same : (b t : List ℕ) → IsSameState b t → HasOneUuid b t
+one_of_same b t x = record {
+  place = x.place;
+  copies = x.copies;
+  chosen = x.chosen;
+  other = luks2 x.there x.others;
+  counts = x.counts;
+  some = λ e. (let no : luks2 x.there x.others ≡ nothing = e in cc);
+  uuid = x.uuid;
+}
+
+pub one_standing : (b t : List ℕ) (m n : Standing) → StandsSo b t m → StandsSo b t n → n ≡ m
+one_standing b t Nothing Nothing x y = refl
+one_standing b t Nothing Another x y = absurd (x y.0)
+one_standing b t Nothing Same x y = absurd (x (any_of_one b t (one_of_same b t y)))
+one_standing b t Nothing Progressed x y = absurd (x (any_of_one b t y.0))
+one_standing b t Another Nothing x y = absurd (y x.0)
+one_standing b t Another Another x y = refl
+one_standing b t Another Same x y = absurd (x.1 (one_of_same b t y))
+one_standing b t Another Progressed x y = absurd (x.1 y.0)
+one_standing b t Same Nothing x y = absurd (y (any_of_one b t (one_of_same b t x)))
+one_standing b t Same Another x y = absurd (y.1 (one_of_same b t x))
+one_standing b t Same Same x y = refl
+one_standing b t Same Progressed x y = absurd (y.1 x)
+one_standing b t Progressed Nothing x y = absurd (y (any_of_one b t x.0))
+one_standing b t Progressed Another x y = absurd (y.1 x.0)
+one_standing b t Progressed Same x y = absurd (x.1 y)
+one_standing b t Progressed Progressed x y = refl

@@ -7,6 +7,7 @@ use Rattle.luks2_header.specs.Selection.{luks2, Chosen}
 use Rattle.luks2_header.specs.declared.selection.Copies.{Copies}
 use Rattle.luks_reading.specs.Checked.{check_key}
 use Rattle.luks_reading.specs.Header.{json_at}
+use Rattle.luks_reading.specs.declared.check_fault.CheckFault.{CheckFault}
 use Rattle.luks_reading.specs.declared.report.Data.{Data}
 use Rattle.luks_reading.specs.declared.report.Data.TheVariants.{Elsewhere}
 use Rattle.luks_keeping.specs.Backup.{IsLuks2Size}
@@ -15,12 +16,14 @@ use Rattle.luks_keeping.specs.Restored.{IsOfOlder}
 use Rattle.luks_keeping.specs.RestoreFaults.{is_restore_failure}
 use Rattle.luks_keeping.specs.declared.restore_fault.RestoreFault.{RestoreFault}
 use Rattle.luks_keeping.specs.declared.restore_fault.RestoreFault.TheVariants as restore
+use Rattle.luks_wider.specs.Underways.{content}
+use Rattle.luks_wide_reading.specs.declared.copy.UnderwayCopy.{UnderwayCopy}
 use Rattle.luks_wide_keeping.specs.declared.over.OverUnderway.{OverUnderway}
 use Rattle.luks_wide_keeping.specs.declared.restore_fault.UnderwayRestoreFault.{UnderwayRestoreFault}
 use Rattle.luks_wide_keeping.specs.declared.restore_fault.UnderwayRestoreFault.TheVariants.{Restore, Progressed}
 use Rattle.luks_wide_keeping.specs.declared.standing.Standing.{Standing}
 use Rattle.luks_wide_keeping.specs.declared.standing.Standing.TheVariants as standing
-use Rattle.luks_wide_keeping.specs.Layout.{FitsUnderway, IsUnderwayFault}
+use Rattle.luks_wide_keeping.specs.Layout.{FitsUnderway, IsLayoutFault, IsUnderwayFault}
 use Rattle.luks_wide_keeping.specs.Standings.{StandsSo}
 
 -- ---- what becomes of the volume
@@ -87,9 +90,30 @@ pub record CanRestoreUnderway (b t : List ℕ) (payload : Data) (over : OverUnde
 
 -- ---- words of private contracts
 
--- the header that counts isn't to be written over
+-- no fault of the layout stands on a device of `total` bytes with the header of the copy
+pub record HasNoFault (c : UnderwayCopy) (payload : Data) (total : ℕ) : Type 0 where
+  pub none : (f : CheckFault) → IsLayoutFault c.header.hdr_size (content c.meta) payload total f → ⊥
+
+-- the first fault of the volume as it would be, of `total` bytes
+abbrev pub IsUnfitThere : UnderwayCopy → Data → ℕ → UnderwayRestoreFault → Type 0
+IsUnfitThere c payload total (Restore (restore.DoesNotFit f)) = IsLeast check_key (IsLayoutFault c.header.hdr_size (content c.meta) payload total) f
+IsUnfitThere c payload total f = ⊥
+
+-- that of the backup, which has `own` bytes, or else of the volume
+abbrev pub IsUnfitEither : UnderwayCopy → Data → ℕ → ℕ → UnderwayRestoreFault → Type 0
+IsUnfitEither c payload own total (Restore (restore.NotAccepted f)) = IsLeast check_key (IsLayoutFault c.header.hdr_size (content c.meta) Elsewhere own) f
+IsUnfitEither c payload own total (Restore (restore.DoesNotFit f)) = HasNoFault c Elsewhere own × IsLeast check_key (IsLayoutFault c.header.hdr_size (content c.meta) payload total) f
+IsUnfitEither c payload own total f = ⊥
+
+-- a header that stands so isn't to be written over
+abbrev pub IsBarredBy : OverUnderway → Standing → UnderwayRestoreFault → Type 0
+IsBarredBy over so (Restore restore.OtherVolume) = (so ≡ standing.Another) × (is_over over standing.Another ≡ false)
+IsBarredBy over so Progressed = (so ≡ standing.Progressed) × (is_over over standing.Progressed ≡ false)
+IsBarredBy over so f = ⊥
+
+-- so does the one that counts
 abbrev pub IsBarred : List ℕ → List ℕ → OverUnderway → UnderwayRestoreFault → Type 0
 IsBarred b t over (Restore restore.OtherVolume) = StandsSo b t standing.Another × (is_over over standing.Another ≡ false)
 IsBarred b t over (Restore restore.Device) = ⊤
-IsBarred b t over (Restore f) = ⊥
 IsBarred b t over Progressed = StandsSo b t standing.Progressed × (is_over over standing.Progressed ≡ false)
+IsBarred b t over f = ⊥

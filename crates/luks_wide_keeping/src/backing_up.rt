@@ -3,10 +3,12 @@ ghost use Rattle.std.specs.Prelude.{◌≡◌, ◌+◌, ◌^◌, ◌<◌, IfErr,
 ghost use Rattle.luks_area.specs.Device.{IsSettled, IsUnchanged};
 ghost use Rattle.luks_area.specs.Ranges.{SameBut};
 ghost use Rattle.luks_writing.specs.TwoDevices.{CountsEither};
+ghost use Rattle.luks_reading.specs.declared.report.Data.{Data as TheData};
 ghost use Rattle.luks_reading.specs.declared.report.Data.TheVariants.{Elsewhere};
 ghost use Rattle.luks_keeping.specs.Backup.{IsBackupSize};
 ghost use Rattle.luks_keeping.specs.BackupFaults.{IsOfBackup, is_backup_failure};
 ghost use Rattle.luks_wide_reading.specs.Headers.{IsUnderwayCopy};
+ghost use Rattle.luks_wide_reading.specs.declared.copy.UnderwayCopy.{UnderwayCopy as TheCopy};
 ghost use Rattle.luks_wide_keeping.specs.Backup.{CanBackUpUnderway, IsUnderwayBackup, IsUnderwayUnmade};
 
 use crate::areas::judge_layout;
@@ -51,14 +53,14 @@ pub fn back_up_underway<S: Device, T: Device>(
         → IsUnchanged T.tells T.size T.bytes T.unsettled target.old target.new) }
 
     // Which bytes may have changed, also where a device failed.
-    ensures rest { S.tells → T.tells
-        → SameBut (IsOfBackup (S.bytes source.old) Elsewhere) (T.bytes target.old) (T.bytes target.new) }
+    ensures rest { S.tells → T.tells → (payload : TheData)
+        → SameBut (IsOfBackup (S.bytes source.old) payload) (T.bytes target.old) (T.bytes target.new) }
 
     // The backup that was made: what is read of the source is read of it.
     ensures backup { S.tells → T.tells → OnOk result
         (IsUnderwayBackup (S.bytes source.old) (T.bytes target.old) (T.bytes target.new)) }
-    ensures reads { S.tells → T.tells
-        → OnOk result (IsUnderwayCopy (T.bytes target.new) copy.now) }
+    ensures reads { S.tells → T.tells → OnOk result ((c : TheCopy)
+        → IsUnderwayCopy (S.bytes source.old) c → IsUnderwayCopy (T.bytes target.new) c) }
 {
     judge_layout(copy, Data::Elsewhere, source.len())?;
     let size = fitting_size(copy, target.len())?;

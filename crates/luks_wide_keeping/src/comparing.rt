@@ -1,12 +1,13 @@
 //! Comparing a backup that was made while something was under way with a volume of the very same state.
-ghost use Rattle.std.specs.Prelude.{◌≡◌, ◌+◌, ◌^◌, ◌<◌, IfOk, true};
+ghost use Rattle.std.specs.Prelude.{◌≡◌, ◌↔◌, ◌+◌, ◌^◌, ◌<◌, IfOk, IsTrue, true};
+ghost use Rattle.luks_area.specs.Area.{IsInside};
 ghost use Rattle.luks_area.specs.Device.{IsUnchanged, is_failure};
 ghost use Rattle.luks_writing.specs.TwoDevices.{CountsEither};
 ghost use Rattle.luks_wider.specs.Underways.{content};
 ghost use Rattle.luks_wide_keeping.specs.Compared.{AreKeptSo, IsKeptSo};
 
 use crate::areas::key_area;
-use luks_area::{Device, DeviceFault};
+use luks_area::{Area, Device, DeviceFault};
 use luks_keeping::{Comparison, Keeping, are_alike};
 use luks_wide_reading::UnderwayCopy;
 
@@ -57,10 +58,19 @@ fn keeping_of<B: Device, T: Device>(
     let Some(area) = key_area(&copy.meta, n) else {
         return Ok(Keeping::Absent);
     };
-    let is_inside = area.is_inside(backup.len()) && area.is_inside(target.len());
-    if is_inside && are_alike(backup, area, target, area)? {
+    if !is_inside_both(area, backup.len(), target.len()) {
+        return Ok(Keeping::Damaged);
+    }
+    if are_alike(backup, area, target, area)? {
         Ok(Keeping::Same)
     } else {
         Ok(Keeping::Damaged)
     }
+}
+
+/// Whether the area lies inside two devices of so many bytes.
+fn is_inside_both(area: Area, here: u64, there: u64) -> bool
+    ensures { IsTrue result ↔ (IsInside area here × IsInside area there) }
+{
+    area.is_inside(here) && area.is_inside(there)
 }

@@ -1,14 +1,15 @@
 //! Restoring a backup that was made while something was under way.
-ghost use Rattle.std.specs.Prelude.{◌≡◌, ◌+◌, ◌*◌, ◌^◌, ◌<◌, ◌≤◌, IfErr, List, ℕ, OnOk, false, length, true};
+ghost use Rattle.std.specs.Prelude.{◌≡◌, ◌+◌, ◌*◌, ◌^◌, ◌<◌, ◌≤◌, IfErr, List, ℕ, OnOk, false, true};
 ghost use Rattle.luks_area.specs.Device.{IsSettled, IsUnchanged};
-ghost use Rattle.luks_area.specs.First.{IsLeast};
 ghost use Rattle.luks_area.specs.Ranges.{SameBut};
 ghost use Rattle.luks_writing.specs.TwoDevices.{CountsEither};
 ghost use Rattle.luks2_header.specs.Selection.{luks2};
+ghost use Rattle.luks_reading.specs.declared.report.Data.TheVariants.{Elsewhere};
 ghost use Rattle.luks_keeping.specs.Restored.{IsFrontAs};
 ghost use Rattle.luks_wide_reading.specs.Headers.{IsUnderwayCopy};
+ghost use Rattle.luks_wide_reading.specs.declared.copy.UnderwayCopy.{UnderwayCopy as TheCopy};
 ghost use Rattle.luks_wide_keeping.specs.Restored.{CanRestoreUnderway, IsBarred, IsOfUnderway, IsUnderwayRestored, IsUnderwayUnrestored};
-ghost use Rattle.luks_wide_keeping.specs.Restored.{is_over, is_underway_restore_failure};
+ghost use Rattle.luks_wide_keeping.specs.Restored.{HasNoFault, IsBarredBy, IsUnfitEither, IsUnfitThere, is_over, is_underway_restore_failure};
 ghost use Rattle.luks_wide_keeping.specs.Standings.{StandsSo};
 ghost use Rattle.luks_wide_keeping.specs.declared.standing.Standing.{Standing as TheStanding};
 
@@ -65,28 +66,61 @@ pub fn restore_underway<B: Device, T: Device>(
     // The volume that was made: what is read of the backup is read of it.
     ensures restored { B.tells → T.tells → OnOk result (IsUnderwayRestored
         (B.bytes backup.old) payload (T.bytes target.old) (T.bytes target.new)) }
-    ensures reads { B.tells → T.tells
-        → OnOk result (IsUnderwayCopy (T.bytes target.new) copy.now) }
+    ensures reads { B.tells → T.tells → OnOk result ((c : TheCopy)
+        → IsUnderwayCopy (B.bytes backup.old) c → IsUnderwayCopy (T.bytes target.new) c) }
 {
-    if let Err(fault) = judge_layout(copy, Data::Elsewhere, backup.len()) {
-        return Err(UnderwayRestoreFault::Restore(RestoreFault::NotAccepted(
-            fault,
-        )));
-    }
-    if let Err(fault) = judge_layout(copy, payload, target.len()) {
-        return Err(UnderwayRestoreFault::Restore(RestoreFault::DoesNotFit(
-            fault,
-        )));
-    }
+    judge_fit(copy, payload, backup.len(), target.len())?;
     judge_standing(backup, target, over)?;
-    let places = places_of(copy, backup.len().min(target.len()));
+    let total = backup.len().min(target.len());
+    let places = places_of(copy, total);
     let limit = front_of(copy, payload, target.len());
     write_over(backup, target, &places, limit)?;
     Ok(())
 }
 
+/// The first fault of the backup, which has `own` bytes, and then of the volume as it would be, of `total` bytes.
+fn judge_fit(
+    copy: &UnderwayCopy,
+    payload: Data,
+    own: u64,
+    total: u64,
+) -> Result<(), UnderwayRestoreFault>
+    ensures here { OnOk result (2 * copy.now.header.hdr_size ≤ own) }
+    ensures there { OnOk result (2 * copy.now.header.hdr_size ≤ total) }
+    ensures fits { OnOk result (HasNoFault copy.now Elsewhere own) }
+    ensures fits_there { OnOk result (HasNoFault copy.now payload total) }
+    ensures refused { IfErr result (IsUnfitEither copy.now payload own total) }
+    ensures kinds { IfErr result (λ f. is_underway_restore_failure f ≡ false) }
+{
+    match judge_layout(copy, Data::Elsewhere, own) {
+        Ok(()) => judge_there(copy, payload, total),
+        Err(fault) => Err(UnderwayRestoreFault::Restore(RestoreFault::NotAccepted(
+            fault,
+        ))),
+    }
+}
+
+/// That of the volume as it would be.
+fn judge_there(
+    copy: &UnderwayCopy,
+    payload: Data,
+    total: u64,
+) -> Result<(), UnderwayRestoreFault>
+    ensures there { OnOk result (2 * copy.now.header.hdr_size ≤ total) }
+    ensures fits { OnOk result (HasNoFault copy.now payload total) }
+    ensures refused { IfErr result (IsUnfitThere copy.now payload total) }
+    ensures kinds { IfErr result (λ f. is_underway_restore_failure f ≡ false) }
+{
+    match judge_layout(copy, payload, total) {
+        Ok(()) => Ok(()),
+        Err(fault) => Err(UnderwayRestoreFault::Restore(RestoreFault::DoesNotFit(
+            fault,
+        ))),
+    }
+}
+
 /// Refuses where the header that counts on the target is another volume's, or isn't of the backup's very state, and
-/// isn't to be written over.
+/// isn't to be written over. Where any may be, nothing is read.
 fn judge_standing<B: Device, T: Device>(
     backup: &mut B,
     target: &mut T,
@@ -106,7 +140,18 @@ fn judge_standing<B: Device, T: Device>(
     if over.another && over.progressed {
         return Ok(());
     }
-    match standing_of(backup, target)? {
+    match standing_of(backup, target) {
+        Ok(standing) => judge_over(standing, over),
+        Err(_) => Err(UnderwayRestoreFault::Restore(RestoreFault::Device)),
+    }
+}
+
+/// Refuses a header that stands so, unless it may be written over.
+fn judge_over(standing: Standing, over: OverUnderway) -> Result<(), UnderwayRestoreFault>
+    ensures clear { OnOk result (is_over over standing ≡ true) }
+    ensures barred { IfErr result (IsBarredBy over standing) }
+{
+    match standing {
         Standing::Nothing | Standing::Same => Ok(()),
         Standing::Another => {
             if over.another {

@@ -117,9 +117,16 @@ fn has_uuid(here: &Bin2, there: &Selected) -> bool
     ensures { IsTrue result ↔ (selected_uuid there.now ≡ here.now.uuid) }
 {
     match there {
-        Selected::V1(bytes) => bytes[UUID..UUID_END] == here.uuid,
-        Selected::V2 { header, .. } => header.uuid == here.uuid,
+        Selected::V1(bytes) => is_uuid(here, &bytes[UUID..UUID_END]),
+        Selected::V2 { header, .. } => is_uuid(here, header.uuid.as_slice()),
     }
+}
+
+/// Whether these are the bytes of this header's uuid field.
+fn is_uuid(here: &Bin2, uuid: &[u8]) -> bool
+    ensures { IsTrue result ↔ (uuid.now ≡ here.now.uuid) }
+{
+    uuid == here.uuid.as_slice()
 }
 
 /// Whether both copies have one sequence number, and the same bytes of metadata.
