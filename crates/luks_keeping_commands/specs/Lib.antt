@@ -3,6 +3,7 @@ pub mod UnderwayTexts
 pub mod TwoFiles
 pub mod BackingUp
 pub mod Restoring
+pub mod ComparingUnderway
 pub mod Comparing
 pub mod Differences
 pub mod KeptFile
