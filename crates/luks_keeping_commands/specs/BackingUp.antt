@@ -28,7 +28,7 @@ use Rattle.luks_wide_reading.specs.declared.copy.UnderwayCopy.{UnderwayCopy}
 use Rattle.luks_wide_reading.specs.Headers.{IsUnderwayCopy, IsUnderWayVolume}
 use Rattle.luks_wide_keeping.specs.Backup.{CanBackUpUnderway, IsUnderwayBackup, IsUnderwayUnmade}
 use Rattle.luks_keeping_commands.specs.TwoFiles.{pair_of, NoneFailed, Pair}
-use Rattle.luks_keeping_commands.specs.UnderwayRefused.{IsUnderwayRefused}
+use Rattle.luks_commands.specs.UnderwayAnswers.{IsMetadataRefused}
 
 -- ---- the backup that is made
 
@@ -94,7 +94,7 @@ IsUnderwayMade tells d (Refused (Backup fault.Device)) = ⊥
 IsUnderwayMade tells d (Refused (Backup fault.Memory)) = ⊥
 IsUnderwayMade tells d (Refused (Backup f)) = NoneFailed d × (tells → d.new ≡ d.old) × (tells → IsUnderwayUnmade d.source d.total f)
 IsUnderwayMade tells d (Refused (Underway (Metadata f))) = NoneFailed d × (tells → d.new ≡ d.old)
-    × (tells → IsUnderwayRefused d.source f)
+    × (tells → IsMetadataRefused d.source f)
 IsUnderwayMade tells d DeviceFault = IsOneFailure d.source_before d.source_after d.before d.after
 IsUnderwayMade tells d a = ⊥
 
@@ -126,7 +126,7 @@ abbrev pub IsUnderwayUnkept : Type 0 → List ℕ → ℕ → ℕ → Answer →
 IsUnderwayUnkept tells v before after (Refused (Backup fault.Device)) = ⊥
 IsUnderwayUnkept tells v before after (Refused (Backup fault.Memory)) = ⊥
 IsUnderwayUnkept tells v before after (Refused (Backup f)) = (after ≡ before) × (tells → IsUnderwayUnmade v 18446744073709551615 f)
-IsUnderwayUnkept tells v before after (Refused (Underway (Metadata f))) = (after ≡ before) × (tells → IsUnderwayRefused v f)
+IsUnderwayUnkept tells v before after (Refused (Underway (Metadata f))) = (after ≡ before) × (tells → IsMetadataRefused v f)
 IsUnderwayUnkept tells v before after a = ⊥
 
 abbrev pub IsUnderwayWithoutFile : Type 0 → List ℕ → ℕ → ℕ → InputFault → Answer → Type 0

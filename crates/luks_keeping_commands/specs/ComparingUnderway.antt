@@ -20,7 +20,7 @@ use Rattle.luks_commands.specs.declared.answers.Answer.TheVariants.{Compared, Re
 use Rattle.luks_commands.specs.declared.answers.Refusal.TheVariants.{Check, Restore, Underway}
 use Rattle.luks_commands.specs.declared.underway_refusal.UnderwayRefusal.TheVariants.{Metadata, Progressed}
 use Rattle.luks_keeping_commands.specs.TwoFiles.{NoneFailed, Pair}
-use Rattle.luks_keeping_commands.specs.UnderwayRefused.{IsUnderwayRefused}
+use Rattle.luks_commands.specs.UnderwayAnswers.{IsMetadataRefused}
 
 -- the volume `t` is of the very state of the backup `b`, and so stand the keyslots, by their key areas
 pub record IsComparedUnderway (b t : List ℕ) (c : Comparison) : Type 0 where
@@ -43,7 +43,7 @@ IsUnderwayCompared tells d (Compared comparison) = NoneFailed d × (tells → Is
 IsUnderwayCompared tells d (Refused (Check f)) = NoneFailed d × (tells → IsUnreadBy d.old f)
 IsUnderwayCompared tells d (Refused (Restore OtherVolume)) = NoneFailed d × (tells → StandsSo d.source d.old Another)
 IsUnderwayCompared tells d (Refused (Underway Progressed)) = NoneFailed d × (tells → StandsSo d.source d.old WentOn)
-IsUnderwayCompared tells d (Refused (Underway (Metadata f))) = NoneFailed d × (tells → IsUnderwayRefused d.source f ⊎ IsUnderwayRefused d.old f)
+IsUnderwayCompared tells d (Refused (Underway (Metadata f))) = NoneFailed d × (tells → IsMetadataRefused d.source f ⊎ IsMetadataRefused d.old f)
 IsUnderwayCompared tells d DeviceFault = IsOneFailure d.source_before d.source_after d.before d.after
 IsUnderwayCompared tells d NoMemory = NoneFailed d × (tells → NeedsMetadata d.source ⊎ NeedsMetadata d.old)
 IsUnderwayCompared tells d a = ⊥

@@ -1,7 +1,7 @@
-pub mod UnderwayRefused
 pub mod UnderwayTexts
 pub mod TwoFiles
 pub mod BackingUp
+pub mod RestoringUnderway
 pub mod Restoring
 pub mod ComparingUnderway
 pub mod Comparing

@@ -18,7 +18,7 @@ ghost use Rattle.luks_keeping_commands.specs.Comparing.{AnswersCompare, IsCompar
 ghost use Rattle.luks_keeping_commands.specs.ComparingUnderway.{IsMomentAnswer, IsUnderwayCompared};
 ghost use Rattle.luks_keeping_commands.specs.TwoFiles.{pair_of};
 
-use crate::underway::underway_answer;
+use crate::underway::{refused_backup, underway_answer};
 use luks_commands::{
     Answer, Inputs, Refusal, Status, UnderwayRefusal, are_one_file, device_fault, refused, unread,
 };
@@ -225,13 +225,6 @@ fn compare_moments<D: Device>(
             RestoreFault::OtherVolume,
         ))),
     }
-}
-
-/// What is answered where `check` refuses the backup's metadata by this fault, and nothing is under way in it.
-fn refused_backup(fault: MetaFault) -> Answer
-    ensures { result ≡ restore_fault_answer (checked_restore (OfMeta fault)) }
-{
-    Answer::from(RestoreFault::from(CheckFault::Meta(fault)))
 }
 
 /// What is answered where the file of this name isn't accepted as a backup.

@@ -7,6 +7,7 @@ pub mod compare;
 mod differences;
 mod kept_file;
 pub mod key;
+mod key_refusal;
 mod keyslots_note;
 mod made_file;
 pub mod restore;
