@@ -1,5 +1,5 @@
 -- What copying both copies of a header and the whole region makes.
-use Rattle.std.proofs.Common.{◌≡◌, ℕ, ◌+◌, ◌*◌, ◌-◌, ◌<◌, ◌≤◌, List, Some, length, true, false, min, replicate, get_or, refl, sym, ap, subst, ◌∙◌, arith, inl, inr, Result, Ok, Err, IfOk, OnOk}
+use Rattle.std.proofs.Common.{◌≡◌, ◌≢◌, ℕ, ◌+◌, ◌*◌, ◌-◌, ◌<◌, ◌≤◌, List, Some, length, true, false, min, replicate, get_or, refl, sym, ap, subst, ◌∙◌, arith, inl, inr, Result, Ok, Err, IfOk, OnOk}
 use Rattle.std.proofs.lemmas.Bool.{cases_lt, true≢false}
 use Rattle.std.proofs.lemmas.List.{get_or_past}
 use Rattle.luks_area.specs.First.{NotAfter, IsLeast}
@@ -147,6 +147,11 @@ unmade_checked v total (check.Meta f) own least = unmade_layout v total (check.M
 unmade_checked v total (check.Area f) own least = unmade_layout v total (check.Area f) least
 unmade_checked v total check.Device own least = absurd (true≢false own)
 unmade_checked v total check.Memory own least = absurd (true≢false own)
+
+pub no_memory : (f : CheckFault) → is_check_failure f ≡ false → checked_backup f ≢ Memory
+no_memory check.Device own = absurd (true≢false own)
+no_memory check.Memory own = absurd (true≢false own)
+no_memory other own = λ e. cc
 
 pub unmade_short : (v : List ℕ) (total : ℕ) → FitsUnderway v Elsewhere (length v) → IsShort v Elsewhere total → IsUnderwayUnmade v total TooSmall
 unmade_short v total fits short = (short, after)
