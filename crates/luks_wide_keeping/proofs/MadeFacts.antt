@@ -146,12 +146,15 @@ unmade_checked v total (check.Head f) own least = unmade_layout v total (check.H
 unmade_checked v total (check.Meta f) own least = unmade_layout v total (check.Meta f) least
 unmade_checked v total (check.Area f) own least = unmade_layout v total (check.Area f) least
 unmade_checked v total check.Device own least = absurd (true≢false own)
-unmade_checked v total check.Memory own least = absurd (true≢false own)
+unmade_checked v total check.Memory own least = absurd least.0.fault
 
-pub no_memory : (f : CheckFault) → is_check_failure f ≡ false → checked_backup f ≢ Memory
-no_memory check.Device own = absurd (true≢false own)
-no_memory check.Memory own = absurd (true≢false own)
-no_memory other own = λ e. cc
+-- none is want of memory
+pub no_memory : (f : CheckFault) → f ≢ check.Memory → checked_backup f ≢ Memory
+no_memory (check.Head f) own = λ e. (let no : NotAccepted (check.Head f) ≡ Memory = e in cc)
+no_memory (check.Meta f) own = λ e. (let no : NotAccepted (check.Meta f) ≡ Memory = e in cc)
+no_memory (check.Area f) own = λ e. (let no : NotAccepted (check.Area f) ≡ Memory = e in cc)
+no_memory check.Device own = λ e. (let no : Device ≡ Memory = e in cc)
+no_memory check.Memory own = absurd (own refl)
 
 pub unmade_short : (v : List ℕ) (total : ℕ) → FitsUnderway v Elsewhere (length v) → IsShort v Elsewhere total → IsUnderwayUnmade v total TooSmall
 unmade_short v total fits short = (short, after)

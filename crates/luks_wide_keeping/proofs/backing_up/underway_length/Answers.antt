@@ -58,7 +58,7 @@ returns-clause-faultless g c = λ source.
 pub returns-in_err-judge_layout-clause-no_memory : goal.returns-in_err-judge_layout-clause-no_memory
 returns-in_err-judge_layout-clause-no_memory g c =
     let p = err_from_is_err_and c.from_residual.result c.from_residual.ensures.1 in
-    rw (p.1, p.2) (no_memory c.in_err-judge_layout.field-0.0 c.in_err-judge_layout.ensures.own)
+    rw (p.1, p.2) (no_memory c.in_err-judge_layout.field-0.0 c.in_err-judge_layout.ensures.no_memory)
 
 none_memory : {A : Type 0} (r : Result A BackupFault) → IfErr r (λ f. f ≡ TooSmall) → IfErr r (λ f. f ≡ Memory → ⊥)
 none_memory (Ok x) own = tt
