@@ -97,18 +97,12 @@ fn judge_fit(
 {
     match judge_layout(copy, Data::Elsewhere, own) {
         Ok(()) => judge_there(copy, payload, total),
-        Err(fault) => Err(UnderwayRestoreFault::Restore(RestoreFault::NotAccepted(
-            fault,
-        ))),
+        Err(fault) => Err(UnderwayRestoreFault::Restore(RestoreFault::NotAccepted(fault))),
     }
 }
 
 /// That of the volume as it would be.
-fn judge_there(
-    copy: &UnderwayCopy,
-    payload: Data,
-    total: u64,
-) -> Result<(), UnderwayRestoreFault>
+fn judge_there(copy: &UnderwayCopy, payload: Data, total: u64) -> Result<(), UnderwayRestoreFault>
     ensures there { OnOk result (2 * copy.now.header.hdr_size ≤ total) }
     ensures fits { OnOk result (HasNoFault copy.now payload total) }
     ensures refused { IfErr result (IsUnfitThere copy.now payload total) }
@@ -117,9 +111,7 @@ fn judge_there(
 {
     match judge_layout(copy, payload, total) {
         Ok(()) => Ok(()),
-        Err(fault) => Err(UnderwayRestoreFault::Restore(RestoreFault::DoesNotFit(
-            fault,
-        ))),
+        Err(fault) => Err(UnderwayRestoreFault::Restore(RestoreFault::DoesNotFit(fault))),
     }
 }
 
