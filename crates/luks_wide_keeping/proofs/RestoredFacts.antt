@@ -1,18 +1,17 @@
 -- What is answered of a backup that isn't restored.
-use Rattle.std.proofs.Common.{◌≡◌, ℕ, List, length, true, Result, Ok, Err, IfErr, OnOk, refl, ap, subst, ◌∙◌}
-use Rattle.luks_writing.specs.TwoDevices.{CountsEither, IsOneFailure}
+use Rattle.std.proofs.Common.{◌≡◌, ℕ, List, length, true, Result, Ok, Err, IfErr, OnOk, ap, subst, ◌∙◌}
+use Rattle.luks_writing.specs.TwoDevices.{IsOneFailure}
 use Rattle.luks_reading.specs.declared.report.Data.{Data}
 use Rattle.luks_reading.specs.declared.report.Data.TheVariants.{Elsewhere}
 use Rattle.luks_keeping.specs.declared.restore_fault.RestoreFault.TheVariants as restore
 use Rattle.luks_wide_reading.specs.declared.copy.UnderwayCopy.{UnderwayCopy}
 use Rattle.luks_wide_reading.specs.Headers.{IsUnderwayCopy}
-use Rattle.luks_wide_keeping.specs.Restored.{is_over, is_underway_restore_failure, CanRestoreUnderway, FitsBoth, HasNoFault, IsBarred, IsBarredBy, IsUnderwayUnrestored, IsUnfitEither}
+use Rattle.luks_wide_keeping.specs.Restored.{is_over, CanRestoreUnderway, FitsBoth, HasNoFault, IsBarred, IsBarredBy, IsUnderwayUnrestored, IsUnfitEither}
 use Rattle.luks_wide_keeping.specs.Standings.{StandsSo}
 use Rattle.luks_wide_keeping.specs.declared.over.OverUnderway.{OverUnderway}
 use Rattle.luks_wide_keeping.specs.declared.restore_fault.UnderwayRestoreFault.{UnderwayRestoreFault}
 use Rattle.luks_wide_keeping.specs.declared.restore_fault.UnderwayRestoreFault.TheVariants.{Restore, Progressed}
 use Rattle.luks_wide_keeping.specs.declared.standing.Standing.{Standing}
-use Rattle.luks_wide_keeping.specs.declared.standing.Standing.TheVariants as standing
 use Rattle.luks_wide_keeping.proofs.CopyFacts.{fits, least_fault}
 use Rattle.luks_wide_keeping.proofs.StandingFacts.{one_standing}
 
