@@ -74,6 +74,22 @@ def standing(backup, target):
     return "same" if (theirs["seqid"], theirs["json"]) == (mine["seqid"], mine["json"]) else "progressed"
 
 
+def is_barred(volume, flags):
+    """What is asked before all else of a volume that is written over: whether it is in the midst of a reencryption; nothing where it isn't, or may be."""
+    if "--over-reencryption" in flags:
+        return None
+    try:
+        chosen = reader.select(volume)
+    except Fault:
+        return None
+    if chosen == 1:
+        return None
+    value = reader.read_json(chosen[0]["json"])
+    mandatory = value["config"].get("requirements", {}).get("mandatory", [])
+    asked = any(text.startswith(("online-reencrypt", "offline-reencrypt")) for text in mandatory)
+    return "Reencrypting" if asked or says_moment(value) else None
+
+
 def restored(backup, target, detached, another, progressed):
     """The same of restoring a backup onto a target; the last two say which headers may be written over. Older second copies that begin before the data lose their
     first sector."""
