@@ -11,6 +11,7 @@ pub mod NotUnderway
 pub mod OpenFacts
 mod UnderwayOpening
 pub mod StandingFacts
+pub mod UnderwayFacts
 mod ShowFacts
 mod SearchFacts
 pub mod ReencryptionFacts

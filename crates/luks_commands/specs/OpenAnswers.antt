@@ -1,19 +1,17 @@
 -- What `open` may answer.
 use Rattle.std.specs.Prelude.{◌≡◌, ◌⊎◌, ℕ, ◌+◌, ◌*◌, ◌≤◌, min, length, Bool, List, Option, Some, None, Result, Ok, Err}
 use Rattle.serde_json.specs.Data.{Data}
-use Rattle.luks_rules.specs.declared.fault.MetaFault.{MetaFault}
 use Rattle.luks_slot.specs.declared.allowed.Allowed.{Allowed}
 use Rattle.luks_reading.specs.Answer.{opens, no_key, refused, AnswerWithin as Gives}
 use Rattle.luks_reading.specs.Header.{NeedsMetadata}
 use Rattle.luks_reading.specs.Unlocking.{gives, locked, UnlockAnswer}
 use Rattle.luks_reading.specs.declared.open_fault.OpenFault.{OpenFault}
 use Rattle.luks_reading.specs.Conversions.{unread_opened}
-use Rattle.luks_wider.specs.declared.fault.WideFault.{WideFault}
 use Rattle.luks_wide_reading.specs.declared.open_fault.WideOpenFault.{WideOpenFault}
 use Rattle.luks_wide_reading.specs.declared.open_fault.WideOpenFault.TheVariants as wide
 use Rattle.luks_wide_reading.specs.declared.read_fault.WideReadFault.{WideReadFault}
 use Rattle.luks_wide_reading.specs.declared.read_fault.WideReadFault.TheVariants as reading
-use Rattle.luks_wide_reading.specs.Headers.{IsUnderWayVolume, IsUnderwayUnread}
+use Rattle.luks_wide_reading.specs.Headers.{IsUnderWayVolume}
 use Rattle.luks_wide_reading.specs.Opening.{UnderwayTakesMemory}
 use Rattle.luks_wide_reading.specs.Volume.{CountsUnderway, UnderwayGives, UnderwayRefuses, UnderwayUnlocks}
 use Rattle.luks_commands.specs.declared.answers.Answer.{Answer}
@@ -23,6 +21,7 @@ use Rattle.luks_commands.specs.declared.inputs.InputFault.{InputFault}
 use Rattle.luks_commands.specs.declared.underway_refusal.UnderwayRefusal.TheVariants.{Metadata, NoKey}
 use Rattle.luks_commands.specs.Answer.{IsWordless, open_fault_answer, unread_answer}
 use Rattle.luks_commands.specs.Lost.{IsLost}
+use Rattle.luks_commands.specs.UnderwayAnswers.{IsMetadataRefused}
 use Rattle.luks_commands.specs.Searched.{Searches}
 
 -- what opening the keyslot `n` gave, or opening the volume, as it is answered
@@ -93,10 +92,6 @@ IsOpenAnswer tells allowed v None p before after a = IsAnyAnswer tells allowed v
 pub record FailsBeside (before after : ℕ) : Type 0 where
   pub least : before ≤ after
   pub most : after ≤ before + 32
-
--- the metadata is refused by its first fault
-abbrev pub IsMetadataRefused : List ℕ → WideFault → Type 0
-IsMetadataRefused v f = (narrow_fault : MetaFault) × IsUnderwayUnread v f narrow_fault
 
 -- a keyslot derives by Argon2, which takes memory
 pub record TakesMemoryUnderway (allowed : Allowed) (v : List ℕ) : Type 0 where
