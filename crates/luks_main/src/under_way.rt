@@ -27,5 +27,8 @@ fn note_readable(meta: &Underway, file: &str, notes: &mut Vec<u8>) {
         Some(_) => "tells which key each keyslot gives",
         None => "tries its keyslots",
     };
-    let _ = writeln!(notes, "luks: {file}: luks show lists it, luks open {opened}");
+    let _ = writeln!(
+        notes,
+        "luks: {file}: luks show lists it, luks open {opened}"
+    );
 }
