@@ -7,6 +7,7 @@ pub mod FirstLineFacts
 pub mod FormatFacts
 pub mod Fronts
 pub mod KeyFacts
+pub mod NotUnderway
 pub mod OpenFacts
 pub mod StandingFacts
 mod ShowFacts

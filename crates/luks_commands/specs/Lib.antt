@@ -4,7 +4,9 @@ pub mod FirstLine
 pub mod Printing
 pub mod Searched
 pub mod Checked
+pub mod UnderwayTexts
 pub mod Answer
+pub mod Lost
 pub mod Beside
 pub mod CheckAnswers
 pub mod Chosen

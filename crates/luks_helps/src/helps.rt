@@ -94,12 +94,21 @@ At most one of these is given:
           bytes: place, length, what it is. Those that end past the volume are
           marked 'outside', those that have bytes and begin inside one above
           'overlap'
+  --tables
+          of a volume in the midst of a reencryption a line of dmsetup's for
+          each segment, in sectors of 512 bytes, KEY-D in place of the key of
+          digest D: by these the data is read where cryptsetup can't go on
   --json  one JSON object on one line, with all that the lines tell and more,
           and every place in bytes
 
+A volume in the midst of a reencryption is shown too, and one of a disk that
+encrypts itself (hw-opal): the lines 'requirements', of the keyslot 'reencrypt'
+and of segments with 'flags' say what is under way.
+
 Or it prints, in each form:
   refused FAULT  the first fault of the header; whether areas lie inside the
-                 volume and apart isn't judged
+                 volume and apart isn't judged. Of --tables also
+                 NotUnderWay: nothing is under way
   device fault   the volume can't be read
   no memory      memory was refused
 
