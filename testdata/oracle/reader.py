@@ -631,8 +631,19 @@ def opened(plan, passphrase):
     return key if given == plan[-1][2] else None
 
 
+# what was derived once, by all that it is derived from
+DERIVED = {}
+
+
 def candidate(plan, passphrase):
     """What the stripes hold under the passphrase, and what that gives in place of the digest."""
+    of = hashlib.sha256(plan[0]).digest(), repr(plan[1:]), bytes(passphrase)
+    if of not in DERIVED:
+        DERIVED[of] = derived(plan, passphrase)
+    return DERIVED[of]
+
+
+def derived(plan, passphrase):
     area, cipher, cipher_key, length, stripes, hashes, (salt, cost), (digest_salt, digest_iterations, digest) = plan
     slot_key = argon2(cost, passphrase, salt, cipher_key) if isinstance(cost, dict) else pbkdf2(hashes[0], passphrase, salt, cost, cipher_key)
     key = opened_area(hashes[1], slot_key, area, length, stripes, cipher)

@@ -444,6 +444,52 @@ def said_of_keys(volume, name, passphrase, first, memory=0, older=False, unread=
                     for which, digest in zip(("old", "new"), sides(value)) if digest is not None and digest not in given]
 
 
+MOST_MEMORY = (1 << 32) - 1
+
+
+def fault_of_slot(volume, n, memory, older):
+    """Why keyslot `n` can't be tried, or none."""
+    try:
+        openable(volume, memory, older)[0](n)
+        return None
+    except Fault as fault:
+        return str(fault)
+
+
+def said_of_refused(volume, n, memory=0, older=False):
+    """What standard error says would have a keyslot tried that is refused."""
+    kdf, lines = under_way(volume)["keyslots"][str(n)]["kdf"], []
+    if kdf["type"] != "pbkdf2":
+        mib = -(-kdf["memory"] // 1024)
+        if kdf["memory"] > memory and mib < 1 << 22 and not fault_of_slot(volume, n, kdf["memory"], True):
+            lines.append(f"keyslot {n} is derived by {kdf['type']}, which takes {mib} MiB of memory: --memory {mib} allows it")
+    if not older and fault_of_slot(volume, n, MOST_MEMORY, False) and not fault_of_slot(volume, n, MOST_MEMORY, True):
+        lines.append(f"keyslot {n} is of an older disk: --older allows it")
+    return lines
+
+
+def said_of_passed_over(volume, memory=0, older=False):
+    """What standard error says of the keyslots that weren't tried, where none is named and none opens."""
+    lines = []
+    for n, it in by_number(under_way(volume)["keyslots"]):
+        fault = None if it["type"] == "reencrypt" else "priority 0" if it.get("priority", 1) == 0 else fault_of_slot(volume, n, memory, older)
+        if fault:
+            lines.append(f"keyslot {n} was passed over: {fault}")
+            lines += said_of_refused(volume, n, memory, older) if fault != "priority 0" else []
+    return lines
+
+
+def said_of_opening(volume, name, passphrase, slot, status, line, memory=0, older=False):
+    """What standard error says behind this answer of a volume in which something is under way, but for how the passphrase ends."""
+    if under_way(volume) is None:
+        return []
+    if status == 0:
+        return said_of_keys(volume, name, passphrase, int(line.split()[1]), memory, older)
+    if line == "no slot opens\n":
+        return said_of_passed_over(volume, memory, older)
+    return said_of_refused(volume, slot, memory, older) if line in ("refused Cipher\n", "refused Hash\n", "refused KeySize\n", "refused Argon2\n") else []
+
+
 # --- the data
 
 def show_tables(volume):
