@@ -9,7 +9,9 @@ pub mod Fronts
 pub mod KeyFacts
 pub mod NotUnderway
 pub mod OpenFacts
+mod UnderwayOpening
 pub mod StandingFacts
+pub mod UnderwayFacts
 mod ShowFacts
 mod SearchFacts
 pub mod ReencryptionFacts
