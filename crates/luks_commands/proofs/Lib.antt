@@ -9,6 +9,7 @@ pub mod Fronts
 pub mod KeyFacts
 pub mod NotUnderway
 pub mod OpenFacts
+mod UnderwayOpening
 pub mod StandingFacts
 pub mod UnderwayFacts
 mod ShowFacts
