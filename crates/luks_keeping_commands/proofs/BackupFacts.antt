@@ -15,7 +15,7 @@ use Rattle.luks_commands.specs.declared.inputs.InputFault.TheVariants.{Absent, U
 use Rattle.luks_commands.specs.declared.inputs.Reason.{Reason}
 use Rattle.luks_commands.specs.declared.inputs.Reason.TheVariants as reason
 use Rattle.luks_commands.specs.Answer.{backup_fault_answer, unread_answer}
-use Rattle.luks_keeping_commands.specs.BackingUp.{AnswersBackup, IsBackupAnswer, IsRescueAnswer, IsWithoutFile, KeepsRest}
+use Rattle.luks_keeping_commands.specs.BackingUp.{AnswersBackup, IsBackupAnswer, IsNotKept, IsRescueAnswer, IsUnderwayMade, IsUnmadeAnswer, IsWithoutFile, KeepsRest}
 use Rattle.luks_keeping_commands.specs.TwoFiles.{Pair}
 
 -- a file that no call was made on has kept its rest
@@ -59,12 +59,12 @@ rescue_settled tells size bytes is_failure s t u w (Err f) count ok kept told sa
 -- ---- of a file that wasn't found to be there and not empty
 
 module _ {D : Type 0} (tells : Type 0) (size : D → ℕ) (bytes : D → List ℕ) (failed : D → ℕ) (rescue : Bool) (payload : Data) (new : Result D InputFault) (a : Answer) where
-  with_reason : (v w : D) (r : Reason) → (r ≡ reason.Exists → ⊥) → IsWithoutFile tells payload (bytes v) (failed v) (failed w) (Unreadable r) a
+  with_reason : (v w : D) (r : Reason) → (r ≡ reason.Exists → ⊥) → IsUnmadeAnswer rescue tells payload (bytes v) (failed v) (failed w) (Unreadable r) a
       → AnswersBackup tells size bytes failed rescue payload (Ok v) (Ok w) (Err (Unreadable r)) new a
   with_reason v w reason.Exists other is = absurd (other refl)
   with_reason v w r other is = is
 
-  pub without_file : (v w : D) (f : InputFault) → (f ≡ Unreadable reason.Exists → ⊥) → IsWithoutFile tells payload (bytes v) (failed v) (failed w) f a
+  pub without_file : (v w : D) (f : InputFault) → (f ≡ Unreadable reason.Exists → ⊥) → IsUnmadeAnswer rescue tells payload (bytes v) (failed v) (failed w) f a
       → AnswersBackup tells size bytes failed rescue payload (Ok v) (Ok w) (Err f) new a
   without_file v w Absent other is = is
   without_file v w (Unreadable r) other is = with_reason v w r (λ e. other (ap Unreadable e)) is
