@@ -1,6 +1,7 @@
+pub mod NarrowFacts
+pub mod Lifted
 pub mod BackupFacts
 pub mod RestoreFacts
 pub mod DifferenceFacts
 pub mod KeyFacts
 pub mod KeptFacts
-pub mod UnderwayFacts

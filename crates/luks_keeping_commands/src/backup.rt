@@ -110,21 +110,55 @@ fn back_up<D: Device, E: Write>(
     let before = volume.failures();
     match backup(alloc, volume, backing_up.payload, target) {
         Ok(()) => Answer::Done(None),
-        Err(BackupFault::NotAccepted(CheckFault::Meta(fault))) => {
-            back_up_wide(alloc, volume, name, target, backing_up, fault, err)
+        Err(BackupFault::NotAccepted(fault)) => {
+            refused_volume(alloc, volume, name, target, backing_up, fault, err)
         }
-        Err(fault) if volume.failures() != before => not_kept(
-            fault,
-            name,
-            "reading failed, the backup may be unfinished",
-            err,
-        ),
-        Err(fault) => not_kept(
-            fault,
+        Err(BackupFault::TooSmall) => Answer::from(BackupFault::TooSmall),
+        Err(BackupFault::Memory) => Answer::NoMemory,
+        Err(BackupFault::Device) if volume.failures() != before => {
+            device_fault(name, "reading failed, the backup may be unfinished", err)
+        }
+        Err(BackupFault::Device) => device_fault(
             backing_up.target,
             "reading or writing failed, the backup may be unfinished",
             err,
         ),
+    }
+}
+
+/// What is answered of a volume that `check` refuses by this fault.
+fn refused_volume<D: Device, E: Write>(
+    alloc: Global,
+    volume: &mut D,
+    name: &str,
+    target: &mut D,
+    backing_up: &BackingUp<'_>,
+    fault: CheckFault,
+    err: &mut E,
+) -> Answer
+    requires volume_room { D.failed volume.old + 1 < 2 ^ 64 }
+    requires target_room { D.failed target.old + 1 < 2 ^ 64 }
+    requires settled { D.tells → IsSettled D.unsettled target.old }
+    requires refused { D.tells → IsAnsweredBackup (D.bytes volume.old) backing_up.now.payload
+        (D.size target.old) (OfCheck fault) }
+    ensures unchanged { IsUnchanged D.tells D.size D.bytes D.unsettled volume.old volume.new }
+    ensures size { D.size target.new ≡ D.size target.old }
+    ensures rest { D.tells → KeepsRest backing_up.now.payload (D.bytes volume.old)
+        (D.bytes target.old) (D.bytes target.new) }
+    ensures settled { D.tells → D.failed volume.new ≡ D.failed volume.old
+        → D.failed target.new ≡ D.failed target.old → IsSettled D.unsettled target.new }
+    ensures kinds { answer_status result ≢ Status.NotInStep }
+    ensures answers { IsMadeAnswer false D.tells backing_up.now.payload (pair_of D.size D.bytes D.failed
+        volume.old volume.new target.old target.new) result }
+{
+    match fault {
+        CheckFault::Meta(found) => {
+            back_up_wide(alloc, volume, name, target, backing_up, found, err)
+        }
+        CheckFault::Head(_) => narrow_answer(fault),
+        CheckFault::Area(_) => narrow_answer(fault),
+        CheckFault::Device => narrow_answer(fault),
+        CheckFault::Memory => narrow_answer(fault),
     }
 }
 
@@ -158,10 +192,10 @@ fn back_up_wide<D: Device, E: Write>(
         Ok(WideHeader::Underway(copy)) => {
             back_up_copy(volume, name, &copy, target, backing_up, err)
         }
-        Ok(WideHeader::Narrow(_)) => narrow_answer(fault),
+        Ok(WideHeader::Narrow(_)) => narrow_answer(CheckFault::Meta(fault)),
         Err(WideReadFault::Underway { fault, .. }) => underway_answer(fault),
-        Err(WideReadFault::Read(ReadFault::Head(_))) => narrow_answer(fault),
-        Err(WideReadFault::Read(ReadFault::Meta(_))) => narrow_answer(fault),
+        Err(WideReadFault::Read(ReadFault::Head(_))) => narrow_answer(CheckFault::Meta(fault)),
+        Err(WideReadFault::Read(ReadFault::Meta(_))) => narrow_answer(CheckFault::Meta(fault)),
         Err(WideReadFault::Read(ReadFault::Device)) => device_fault(name, "reading failed", err),
         Err(WideReadFault::Read(ReadFault::Memory)) => Answer::NoMemory,
     }
@@ -210,11 +244,11 @@ fn back_up_copy<D: Device, E: Write>(
     }
 }
 
-/// What is answered where `check` refuses the metadata by this fault, and nothing is under way in it.
-fn narrow_answer(fault: MetaFault) -> Answer
-    ensures { result ≡ backup_fault_answer (OfCheck (OfMeta fault)) }
+/// What is answered where `check` refuses the volume by this fault, and nothing is under way in its metadata.
+fn narrow_answer(fault: CheckFault) -> Answer
+    ensures { result ≡ backup_fault_answer (OfCheck fault) }
 {
-    Answer::from(BackupFault::NotAccepted(CheckFault::Meta(fault)))
+    Answer::from(BackupFault::NotAccepted(fault))
 }
 
 /// The same of a volume whose key areas can't be read everywhere: what can be read.
@@ -276,14 +310,45 @@ fn without_file<D: Device, E: Write>(
 {
     match backup_length(alloc, volume, backing_up.payload) {
         Ok(_) => unread(missed, backing_up.target, err),
-        Err(BackupFault::NotAccepted(CheckFault::Meta(fault))) => {
-            if backing_up.rescue {
-                narrow_answer(fault)
+        Err(BackupFault::NotAccepted(fault)) => {
+            if !backing_up.rescue {
+                without_file_refused(alloc, volume, name, missed, backing_up, fault, err)
             } else {
-                without_file_wide(alloc, volume, name, missed, backing_up, fault, err)
+                narrow_answer(fault)
             }
         }
-        Err(fault) => not_kept(fault, name, "reading failed", err),
+        Err(BackupFault::TooSmall) => Answer::from(BackupFault::TooSmall),
+        Err(BackupFault::Memory) => Answer::NoMemory,
+        Err(BackupFault::Device) => device_fault(name, "reading failed", err),
+    }
+}
+
+/// The same of a volume that `check` refuses by this fault.
+fn without_file_refused<D: Device, E: Write>(
+    alloc: Global,
+    volume: &mut D,
+    name: &str,
+    missed: InputFault,
+    backing_up: &BackingUp<'_>,
+    fault: CheckFault,
+    err: &mut E,
+) -> Answer
+    requires room { D.failed volume.old + 1 < 2 ^ 64 }
+    requires refused { D.tells → IsAnsweredBackup (D.bytes volume.old) backing_up.now.payload
+        18446744073709551615 (OfCheck fault) }
+    ensures unchanged { IsUnchanged D.tells D.size D.bytes D.unsettled volume.old volume.new }
+    ensures kinds { answer_status result ≢ Status.NotInStep }
+    ensures answers { IsUnmadeAnswer false D.tells backing_up.now.payload
+        (D.bytes volume.old) (D.failed volume.old) (D.failed volume.new) missed result }
+{
+    match fault {
+        CheckFault::Meta(found) => {
+            without_file_wide(alloc, volume, name, missed, backing_up, found, err)
+        }
+        CheckFault::Head(_) => narrow_answer(fault),
+        CheckFault::Area(_) => narrow_answer(fault),
+        CheckFault::Device => narrow_answer(fault),
+        CheckFault::Memory => narrow_answer(fault),
     }
 }
 
@@ -307,13 +372,13 @@ fn without_file_wide<D: Device, E: Write>(
 {
     match read_wide_header(alloc, volume) {
         Ok(WideHeader::Underway(copy)) => match underway_length(volume, &copy) {
-            Ok(_) => unread(missed, backing_up.target, err),
+            Ok(_length) => unread(missed, backing_up.target, err),
             Err(fault) => Answer::from(fault),
         },
-        Ok(WideHeader::Narrow(_)) => narrow_answer(fault),
+        Ok(WideHeader::Narrow(_)) => narrow_answer(CheckFault::Meta(fault)),
         Err(WideReadFault::Underway { fault, .. }) => underway_answer(fault),
-        Err(WideReadFault::Read(ReadFault::Head(_))) => narrow_answer(fault),
-        Err(WideReadFault::Read(ReadFault::Meta(_))) => narrow_answer(fault),
+        Err(WideReadFault::Read(ReadFault::Head(_))) => narrow_answer(CheckFault::Meta(fault)),
+        Err(WideReadFault::Read(ReadFault::Meta(_))) => narrow_answer(CheckFault::Meta(fault)),
         Err(WideReadFault::Read(ReadFault::Device)) => device_fault(name, "reading failed", err),
         Err(WideReadFault::Read(ReadFault::Memory)) => Answer::NoMemory,
     }

@@ -91,7 +91,10 @@ fn compare_headers<D: Device, E: Write>(
         Err(CheckFault::Meta(fault)) => {
             return compare_wide(alloc, backup, volume, name, comparing, fault, err);
         }
-        Err(fault) => return no_backup(fault, comparing.backup, err),
+        Err(CheckFault::Head(fault)) => return refused_backup(CheckFault::Head(fault)),
+        Err(CheckFault::Area(fault)) => return refused_backup(CheckFault::Area(fault)),
+        Err(CheckFault::Device) => return device_fault(comparing.backup, "reading failed", err),
+        Err(CheckFault::Memory) => return Answer::NoMemory,
     };
     let there = match read_outline(alloc, volume, comparing.payload) {
         Ok(found) => found,
@@ -134,10 +137,10 @@ fn compare_wide<D: Device, E: Write>(
         Ok(WideHeader::Underway(copy)) => {
             compare_copy(alloc, backup, &copy, volume, name, comparing, err)
         }
-        Ok(WideHeader::Narrow(_)) => refused_backup(fault),
+        Ok(WideHeader::Narrow(_)) => refused_backup(CheckFault::Meta(fault)),
         Err(WideReadFault::Underway { fault, .. }) => underway_answer(fault),
-        Err(WideReadFault::Read(ReadFault::Head(_))) => refused_backup(fault),
-        Err(WideReadFault::Read(ReadFault::Meta(_))) => refused_backup(fault),
+        Err(WideReadFault::Read(ReadFault::Head(_))) => refused_backup(CheckFault::Meta(fault)),
+        Err(WideReadFault::Read(ReadFault::Meta(_))) => refused_backup(CheckFault::Meta(fault)),
         Err(WideReadFault::Read(ReadFault::Device)) => {
             device_fault(comparing.backup, "reading failed", err)
         }
@@ -224,15 +227,5 @@ fn compare_moments<D: Device>(
         Standing::Another | Standing::Nothing => Ok(Answer::Refused(Refusal::Restore(
             RestoreFault::OtherVolume,
         ))),
-    }
-}
-
-/// What is answered where the file of this name isn't accepted as a backup.
-fn no_backup<E: Write>(fault: CheckFault, file: &str, err: &mut E) -> Answer
-    ensures { result ≡ restore_fault_answer (checked_restore fault) }
-{
-    match fault {
-        CheckFault::Device => device_fault(file, "reading failed", err),
-        fault => Answer::from(RestoreFault::from(fault)),
     }
 }

@@ -163,7 +163,7 @@ fn open_underway<D: Device>(
         → IsUnderwayFound (allowed_of keeping.now.memory keeping.now.older)
         (D.bytes device.old) keeping.now.slot passphrase.now result }
 {
-    let allowed = allowed_of(keeping.memory, keeping.older);
+    let limits = allowed_of(keeping.memory, keeping.older);
     let mut nearest = None;
     match keeping.slot {
         Some(n) => wide_opened_by(try_underway_slot(
@@ -172,7 +172,7 @@ fn open_underway<D: Device>(
             copy,
             n,
             passphrase,
-            allowed,
+            limits,
             &mut nearest,
         )),
         None => opened_by(key_of(try_underway(
@@ -180,7 +180,7 @@ fn open_underway<D: Device>(
             device,
             copy,
             passphrase,
-            allowed,
+            limits,
             &mut nearest,
         ))),
     }

@@ -140,10 +140,10 @@ fn put_back<D: Device, E: Write>(
         Err(CheckFault::Meta(fault)) => {
             put_back_wide(alloc, backup, volume, name, restoring, fault, err)
         }
-        Err(fault) => {
-            let fault = RestoreFault::from(fault);
-            not_restored(fault, restoring.backup, "reading failed", err)
-        }
+        Err(CheckFault::Head(fault)) => refused_backup(CheckFault::Head(fault)),
+        Err(CheckFault::Area(fault)) => refused_backup(CheckFault::Area(fault)),
+        Err(CheckFault::Device) => device_fault(restoring.backup, "reading failed", err),
+        Err(CheckFault::Memory) => Answer::NoMemory,
     }
 }
 
@@ -176,10 +176,10 @@ fn put_back_wide<D: Device, E: Write>(
         Ok(WideHeader::Underway(copy)) => {
             put_unless_used(backup, &copy, volume, name, restoring, err)
         }
-        Ok(WideHeader::Narrow(_)) => refused_backup(fault),
+        Ok(WideHeader::Narrow(_)) => refused_backup(CheckFault::Meta(fault)),
         Err(WideReadFault::Underway { fault, .. }) => underway_answer(fault),
-        Err(WideReadFault::Read(ReadFault::Head(_))) => refused_backup(fault),
-        Err(WideReadFault::Read(ReadFault::Meta(_))) => refused_backup(fault),
+        Err(WideReadFault::Read(ReadFault::Head(_))) => refused_backup(CheckFault::Meta(fault)),
+        Err(WideReadFault::Read(ReadFault::Meta(_))) => refused_backup(CheckFault::Meta(fault)),
         Err(WideReadFault::Read(ReadFault::Device)) => {
             device_fault(restoring.backup, "reading failed", err)
         }

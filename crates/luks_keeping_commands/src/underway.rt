@@ -7,12 +7,11 @@ ghost use Rattle.luks_commands.specs.declared.underway_refusal.UnderwayRefusal.T
 ghost use Rattle.luks_keeping_commands.specs.UnderwayTexts.{IsMomentSaid};
 ghost use Rattle.luks_commands.specs.Answer.{restore_fault_answer};
 ghost use Rattle.luks_keeping.specs.RestoreFaults.{checked_restore};
-ghost use Rattle.luks_reading.specs.declared.check_fault.CheckFault.TheVariants.{Meta as OfMeta};
 ghost use Rattle.luks_wider.specs.Underways.{content};
 
 use luks_commands::{Answer, Refusal, UnderwayRefusal};
 use luks_keeping::RestoreFault;
-use luks_reading::{CheckFault, MetaFault};
+use luks_reading::CheckFault;
 use luks_wide_reading::{Underway, WideFault};
 use std::io::{self, Write};
 
@@ -23,11 +22,11 @@ pub(crate) fn underway_answer(fault: WideFault) -> Answer
     Answer::Refused(Refusal::Underway(UnderwayRefusal::Metadata(fault)))
 }
 
-/// What is answered where `check` refuses a backup's metadata by this fault, and nothing is under way in it.
-pub(crate) fn refused_backup(fault: MetaFault) -> Answer
-    ensures { result ≡ restore_fault_answer (checked_restore (OfMeta fault)) }
+/// What is answered where `check` refuses a backup by this fault, and nothing is under way in its metadata.
+pub(crate) fn refused_backup(fault: CheckFault) -> Answer
+    ensures { result ≡ restore_fault_answer (checked_restore fault) }
 {
-    Answer::from(RestoreFault::from(CheckFault::Meta(fault)))
+    Answer::from(RestoreFault::from(fault))
 }
 
 /// Says of a reencryption that the backup of the volume of this name is of one moment.

@@ -1,5 +1,5 @@
 -- The first fault of a layout, and where there is none.
-use Rattle.std.proofs.Common.{◌≡◌, ◌↔◌, ℕ, ◌+◌, ◌*◌, ◌^◌, ◌<◌, ◌≤◌, ◌&&◌, codes, Bool, IsTrue, not, Option, Some, None, option_and_then, arith, refl, sym, ap, subst, ◌∙◌, inl, inr, true, false}
+use Rattle.std.proofs.Common.{◌≡◌, ◌↔◌, ℕ, ◌+◌, ◌*◌, ◌^◌, ◌<◌, ◌≤◌, ◌&&◌, codes, Bool, IsTrue, not, Option, Some, None, IfSome, IsNone, Result, Ok, Err, IfErr, OnOk, option_and_then, arith, refl, sym, ap, subst, ◌∙◌, inl, inr, true, false}
 use Rattle.std.proofs.lemmas.Bool.{cases_lt, false≢true}
 use Rattle.serde_json.specs.Find.{get}
 use Rattle.serde_json.specs.Data.{Data as Value}
@@ -99,6 +99,13 @@ some_number a b e = cc
 pub region_told : (j : Value) (k : Config) → IsConfig j k → keyslots_size j ≡ Some k.keyslots_size
 region_told j k x = ap (λ o. decimal_in (option_and_then (get (codes "keyslots_size")) o)) x.is ∙ x.tells_members.1
 
+-- the size that is known
+pub known_size : (c : UnderwayCopy) (k : Config) (o : Option ℕ) → IsConfig (content c.meta) k → IfSome o (λ all. all ≡ 2 * c.header.hdr_size + k.keyslots_size)
+    → (IsNone o → 2 ^ 64 ≤ 2 * c.header.hdr_size + k.keyslots_size) → IsKnownSize c o
+known_size c k (Some size) told some none = record { region = k.keyslots_size; says = region_told (content c.meta) k told; is = some }
+known_size c k None told some none =
+    (2 * c.header.hdr_size + k.keyslots_size, (record { region = k.keyslots_size; says = region_told (content c.meta) k told; is = refl }, none refl))
+
 module _ (c : UnderwayCopy) (n : ℕ) (size : Option ℕ) (known : IsKnownSize c size) where
   below_whole : (m : ℕ) → IsWholeSize c m → (offset region : ℕ) → keyslots_size (content c.meta) ≡ Some region → offset < 2 * c.header.hdr_size + region → offset < m
   below_whole m x offset region says below = (let same = some_number x.region region (sym x.says ∙ says) in let is = x.is in omega (arith, same, is, below))
@@ -112,45 +119,48 @@ module _ (c : UnderwayCopy) (n : ℕ) (size : Option ℕ) (known : IsKnownSize c
   below_end offset (Some m) x fits below = (x.region, (x.says, (let is = x.is in omega (arith, is, below))))
   below_end offset None x fits below = (x.1.0.region, (x.1.0.says, (let is = x.1.0.is in let long = x.1.1 in omega (arith, is, long, fits))))
 
-  -- a segment that is there
-  pub segment_is : (k : WideSegment) (b : Bool) → IsObject TellsWideSegment (content c.meta) Segments n k → n < 32 → k.offset < 2 ^ 64 → (IsTrue b ↔ IsBelow k.offset size)
-      → IsTrue (not k.flags.backup && b) ↔ IsSegmentBelow c.header.hdr_size (content c.meta) n
-  segment_is k b x low fits told = (there b told k.flags.backup refl, back b told k.flags.backup refl)
-    where
-      there : (b : Bool) → (IsTrue b ↔ IsBelow k.offset size) → (kept : Bool) → k.flags.backup ≡ kept → IsTrue (not kept && b) → IsSegmentBelow c.header.hdr_size (content c.meta) n
-      there b told true is on = absurd (false≢true on)
-      there false told false is on = absurd (false≢true on)
-      there true told false is on =
-          let end = below_end k.offset size known fits (told.0 refl) in
-          record {
-            numbered = low;
-            object = x.object;
-            is = x.is;
-            in_use = sym x.tells_members.flags.kept_back ∙ is;
-            offset = k.offset;
-            begins = segment_begins (content c.meta) n k x;
-            region = end.0;
-            says = end.1.0;
-            below = end.1.1;
-          }
+  some_object : (a b : Value) → Some a ≡ Some b → a ≡ b
+  some_object a b e = cc
 
-      some_object : (a b : Value) → Some a ≡ Some b → a ≡ b
-      some_object a b e = cc
+  -- a segment that is there, and by which data is read
+  module _ (k : WideSegment) (x : IsObject TellsWideSegment (content c.meta) Segments n k) (low : n < 32) (fits : k.offset < 2 ^ 64) (used : k.flags.backup ≡ false) where
+    there : (b : Bool) → (IsTrue b ↔ IsBelow k.offset size) → IsTrue b → IsSegmentBelow c.header.hdr_size (content c.meta) n
+    there b told on =
+        let end = below_end k.offset size known fits (told.0 on) in
+        record {
+          numbered = low;
+          object = x.object;
+          is = x.is;
+          in_use = sym x.tells_members.flags.kept_back ∙ used;
+          offset = k.offset;
+          begins = segment_begins (content c.meta) n k x;
+          region = end.0;
+          says = end.1.0;
+          below = end.1.1;
+        }
 
-      same_object : (y : IsSegmentBelow c.header.hdr_size (content c.meta) n) → y.object ≡ x.object
-      same_object y = some_object y.object x.object (sym y.is ∙ x.is)
+    back : (b : Bool) → (IsTrue b ↔ IsBelow k.offset size) → IsSegmentBelow c.header.hdr_size (content c.meta) n → IsTrue b
+    back b told y =
+        let offset : y.offset ≡ k.offset = some_number y.offset k.offset (sym y.begins ∙ segment_begins (content c.meta) n k x) in
+        told.1 (is_below k.offset y.region size known y.says (subst (λ (o : ℕ). o < 2 * c.header.hdr_size + y.region) offset y.below))
 
-      back : (b : Bool) → (IsTrue b ↔ IsBelow k.offset size) → (kept : Bool) → k.flags.backup ≡ kept → IsSegmentBelow c.header.hdr_size (content c.meta) n → IsTrue (not kept && b)
-      back b told true is y =
-          let used : is_kept_back x.object ≡ false = subst (λ (d : Value). is_kept_back d ≡ false) (same_object y) y.in_use in
-          absurd (false≢true (sym used ∙ sym x.tells_members.flags.kept_back ∙ is))
-      back b told false is y =
-          let offset : y.offset ≡ k.offset = some_number y.offset k.offset (sym y.begins ∙ segment_begins (content c.meta) n k x) in
-          told.1 (is_below k.offset y.region size known y.says (subst (λ (o : ℕ). o < 2 * c.header.hdr_size + y.region) offset y.below))
+    pub segment_is : (b : Bool) → (IsTrue b ↔ IsBelow k.offset size) → (IsTrue b → IsSegmentBelow c.header.hdr_size (content c.meta) n) × (IsSegmentBelow c.header.hdr_size (content c.meta) n → IsTrue b)
+    segment_is b told = (there b told, back b told)
 
 -- no segment, none below
 pub no_segment : (bytes : ℕ) (j : Value) (n : ℕ) → IsMissing j Segments n → IsSegmentBelow bytes j n → ⊥
 no_segment bytes j n gone x = (let none = gone x.numbered in let some = x.is in absurd (cc))
+
+-- with the data elsewhere none is in the way
+pub elsewhere : (bytes : ℕ) (j : Value) → Elsewhere ≡ Here → (n : ℕ) → IsSegmentBelow bytes j n → ⊥
+elsewhere bytes j e n x = (let no : Elsewhere ≡ Here = e in cc)
+
+-- both copies have no room
+pub no_room : (bytes total : ℕ) (b : Bool) → (IsTrue b ↔ (2 * bytes ≤ total)) → b ≡ false → total < 2 * bytes
+no_room bytes total b told off = elim (cases_lt total (2 * bytes)) [
+  | inl short ↦ short
+  | inr room ↦ absurd (false≢true (sym off ∙ told.1 room))
+]
 
 -- ---- the least of a kind
 
@@ -201,3 +211,27 @@ module _ (bytes : ℕ) (j : Value) (payload : Data) (total : ℕ) where
   no_fault none room inside (check.Area (Outside Head2)) is = omega (arith, is, room)
   no_fault none room inside (check.Area (Outside (Slot n))) is = inside n is
   no_fault none room inside other is = is
+
+  -- ---- with the data here, where no segment begins below
+
+  past_segments : (payload ≡ Here → (n : ℕ) → IsSegmentBelow bytes j n → ⊥) → (f : CheckFault) → IsLayoutFault bytes j payload total f → IsLayoutFault bytes j Elsewhere total f
+  past_segments none (check.Meta (Region (Segment n))) is = absurd (none is.0 n is.1)
+  past_segments none (check.Area (Outside Head2)) is = is
+  past_segments none (check.Area (Outside (Slot n))) is = is
+  past_segments none other is = absurd is
+
+  any_payload : (f : CheckFault) → IsLayoutFault bytes j Elsewhere total f → IsLayoutFault bytes j payload total f
+  any_payload (check.Meta (Region (Segment n))) is = (let no : Elsewhere ≡ Here = is.0 in absurd (cc))
+  any_payload (check.Area (Outside Head2)) is = is
+  any_payload (check.Area (Outside (Slot n))) is = is
+  any_payload other is = absurd is
+
+  pub least_here : (payload ≡ Here → (n : ℕ) → IsSegmentBelow bytes j n → ⊥) → (r : Result Unit CheckFault) → IfErr r (IsLeast check_key (IsLayoutFault bytes j Elsewhere total))
+      → IfErr r (IsLeast check_key (IsLayoutFault bytes j payload total))
+  least_here none (Ok x) least = tt
+  least_here none (Err f) least = (any_payload f least.0, λ g y. least.1 g (past_segments none g y))
+
+  pub fits_here : (payload ≡ Here → (n : ℕ) → IsSegmentBelow bytes j n → ⊥) → (r : Result Unit CheckFault) → OnOk r ((f : CheckFault) → IsLayoutFault bytes j Elsewhere total f → ⊥)
+      → OnOk r ((f : CheckFault) → IsLayoutFault bytes j payload total f → ⊥)
+  fits_here none (Ok x) clear = λ f y. clear f (past_segments none f y)
+  fits_here none (Err f) clear = tt

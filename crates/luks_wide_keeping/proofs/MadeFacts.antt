@@ -1,5 +1,5 @@
 -- What copying both copies of a header and the whole region makes.
-use Rattle.std.proofs.Common.{◌≡◌, ℕ, ◌+◌, ◌*◌, ◌-◌, ◌<◌, ◌≤◌, List, Some, length, true, false, min, replicate, get_or, refl, sym, ap, subst, ◌∙◌, arith, inl, inr, Result, Ok, Err, IfOk, OnOk}
+use Rattle.std.proofs.Common.{◌≡◌, ◌≢◌, ℕ, ◌+◌, ◌*◌, ◌-◌, ◌<◌, ◌≤◌, List, Some, length, true, false, min, replicate, get_or, refl, sym, ap, subst, ◌∙◌, arith, inl, inr, Result, Ok, Err, IfOk, OnOk}
 use Rattle.std.proofs.lemmas.Bool.{cases_lt, true≢false}
 use Rattle.std.proofs.lemmas.List.{get_or_past}
 use Rattle.luks_area.specs.First.{NotAfter, IsLeast}
@@ -146,7 +146,15 @@ unmade_checked v total (check.Head f) own least = unmade_layout v total (check.H
 unmade_checked v total (check.Meta f) own least = unmade_layout v total (check.Meta f) least
 unmade_checked v total (check.Area f) own least = unmade_layout v total (check.Area f) least
 unmade_checked v total check.Device own least = absurd (true≢false own)
-unmade_checked v total check.Memory own least = absurd (true≢false own)
+unmade_checked v total check.Memory own least = absurd least.0.fault
+
+-- none is want of memory
+pub no_memory : (f : CheckFault) → f ≢ check.Memory → checked_backup f ≢ Memory
+no_memory (check.Head f) own = λ e. (let no : NotAccepted (check.Head f) ≡ Memory = e in cc)
+no_memory (check.Meta f) own = λ e. (let no : NotAccepted (check.Meta f) ≡ Memory = e in cc)
+no_memory (check.Area f) own = λ e. (let no : NotAccepted (check.Area f) ≡ Memory = e in cc)
+no_memory check.Device own = λ e. (let no : Device ≡ Memory = e in cc)
+no_memory check.Memory own = absurd (own refl)
 
 pub unmade_short : (v : List ℕ) (total : ℕ) → FitsUnderway v Elsewhere (length v) → IsShort v Elsewhere total → IsUnderwayUnmade v total TooSmall
 unmade_short v total fits short = (short, after)

@@ -1,10 +1,11 @@
 //! Whether a header and its key areas fit onto a device, where something is under way.
-ghost use Rattle.std.specs.Prelude.{◌≡◌, ◌↔◌, ◌*◌, ◌≤◌, ◌<◌, ℕ, false, IfErr, IsTrue, MatchOption, OnOk};
+ghost use Rattle.std.specs.Prelude.{◌≡◌, ◌≢◌, ◌↔◌, ◌*◌, ◌≤◌, ◌<◌, ℕ, false, IfErr, IsTrue, MatchOption, OnOk};
 ghost use Rattle.luks_area.specs.First.{IsLeast};
 ghost use Rattle.luks_area.specs.declared.area.Area.{Area as TheArea};
 ghost use Rattle.luks_reading.specs.Checked.{check_key};
 ghost use Rattle.luks_reading.specs.Failures.{is_check_failure};
 ghost use Rattle.luks_reading.specs.declared.check_fault.CheckFault.{CheckFault as TheFault};
+ghost use Rattle.luks_reading.specs.declared.report.Data.TheVariants.{Elsewhere};
 ghost use Rattle.luks_wider.specs.Underways.{content};
 ghost use Rattle.luks_wide_keeping.specs.Layout.{HasKeyArea, IsLayoutFault, IsSlotPast};
 ghost use Rattle.luks_wide_keeping.specs.Whole.{IsFirstOf};
@@ -29,10 +30,24 @@ pub(crate) fn judge_layout(
     ensures refused { IfErr result (IsLeast check_key
         (IsLayoutFault copy.now.header.hdr_size (content copy.now.meta) payload total)) }
     ensures own { IfErr result (λ f. is_check_failure f ≡ false) }
+    ensures no_memory { IfErr result (λ f. f ≢ CheckFault.Memory) }
 {
-    if let Some(n) = segment_below(copy, payload) {
-        return Err(CheckFault::Meta(MetaFault::Region(AreaName::Segment(n))));
+    match segment_below(copy, payload) {
+        Some(n) => Err(CheckFault::Meta(MetaFault::Region(AreaName::Segment(n)))),
+        None => judge_areas(copy, total),
     }
+}
+
+/// The same but for segments.
+fn judge_areas(copy: &UnderwayCopy, total: u64) -> Result<(), CheckFault>
+    ensures header { OnOk result (2 * copy.now.header.hdr_size ≤ total) }
+    ensures fits { OnOk result ((f : TheFault)
+        → IsLayoutFault copy.now.header.hdr_size (content copy.now.meta) Elsewhere total f → ⊥) }
+    ensures refused { IfErr result (IsLeast check_key
+        (IsLayoutFault copy.now.header.hdr_size (content copy.now.meta) Elsewhere total)) }
+    ensures own { IfErr result (λ f. is_check_failure f ≡ false) }
+    ensures no_memory { IfErr result (λ f. f ≢ CheckFault.Memory) }
+{
     if !has_both_copies(copy.header.hdr_size, total) {
         return Err(CheckFault::Area(AreaFault::Outside(AreaName::Head2)));
     }

@@ -1,5 +1,5 @@
 //! Making a backup of the header of a volume in whose metadata something is under way.
-ghost use Rattle.std.specs.Prelude.{◌≡◌, ◌+◌, ◌^◌, ◌<◌, IfErr, IfOk, OnOk, false};
+ghost use Rattle.std.specs.Prelude.{◌≡◌, ◌≢◌, ◌+◌, ◌^◌, ◌<◌, IfErr, IfOk, OnOk, false};
 ghost use Rattle.luks_area.specs.Device.{IsSettled, IsUnchanged};
 ghost use Rattle.luks_area.specs.Ranges.{SameBut};
 ghost use Rattle.luks_writing.specs.TwoDevices.{CountsEither};
@@ -51,6 +51,7 @@ pub fn back_up_underway<S: Device, T: Device>(
         (CanBackUpUnderway (S.bytes source.old) (T.size target.old)) }
     ensures refused { IfErr result (λ f. is_backup_failure f ≡ false
         → IsUnchanged T.tells T.size T.bytes T.unsettled target.old target.new) }
+    ensures no_memory { IfErr result (λ f. f ≢ BackupFault.Memory) }
 
     // Which bytes may have changed, also where a device failed.
     ensures rest { S.tells → T.tells → (payload : TheData)
@@ -79,6 +80,7 @@ pub fn underway_length<S: Device>(source: &S, copy: &UnderwayCopy) -> Result<u64
     ensures fault { S.tells → IfErr result
         (IsUnderwayUnmade (S.bytes source.now) 18446744073709551615) }
     ensures own { IfErr result (λ f. is_backup_failure f ≡ false) }
+    ensures no_memory { IfErr result (λ f. f ≢ BackupFault.Memory) }
 {
     judge_layout(copy, Data::Elsewhere, source.len())?;
     fitting_size(copy, u64::MAX)

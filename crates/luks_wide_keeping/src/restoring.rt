@@ -1,11 +1,12 @@
 //! Restoring a backup that was made while something was under way.
-ghost use Rattle.std.specs.Prelude.{◌≡◌, ◌+◌, ◌*◌, ◌^◌, ◌<◌, ◌≤◌, IfErr, List, ℕ, OnOk, false, true};
+ghost use Rattle.std.specs.Prelude.{◌≡◌, ◌≢◌, ◌+◌, ◌*◌, ◌^◌, ◌<◌, ◌≤◌, IfErr, List, ℕ, OnOk, false, true};
 ghost use Rattle.luks_area.specs.Device.{IsSettled, IsUnchanged};
 ghost use Rattle.luks_area.specs.Ranges.{SameBut};
 ghost use Rattle.luks_writing.specs.TwoDevices.{CountsEither};
 ghost use Rattle.luks2_header.specs.Selection.{luks2};
 ghost use Rattle.luks_reading.specs.declared.report.Data.TheVariants.{Elsewhere};
 ghost use Rattle.luks_keeping.specs.Restored.{IsFrontAs};
+ghost use Rattle.luks_keeping.specs.declared.restore_fault.RestoreFault.TheVariants.{Memory as NoMemory};
 ghost use Rattle.luks_wide_reading.specs.Headers.{IsUnderwayCopy};
 ghost use Rattle.luks_wide_reading.specs.declared.copy.UnderwayCopy.{UnderwayCopy as TheCopy};
 ghost use Rattle.luks_wide_keeping.specs.Restored.{CanRestoreUnderway, IsBarred, IsOfUnderway, IsUnderwayRestored, IsUnderwayUnrestored};
@@ -57,6 +58,7 @@ pub fn restore_underway<B: Device, T: Device>(
         (CanRestoreUnderway (B.bytes backup.old) (T.bytes target.old) payload over) }
     ensures refused { IfErr result (λ f. is_underway_restore_failure f ≡ false
         → IsUnchanged T.tells T.size T.bytes T.unsettled target.old target.new) }
+    ensures no_memory { IfErr result (λ f. f ≢ UnderwayRestoreFault.Restore NoMemory) }
 
     // Which bytes may have changed, also where a device failed.
     ensures rest { B.tells → T.tells
@@ -91,6 +93,7 @@ fn judge_fit(
     ensures fits_there { OnOk result (HasNoFault copy.now payload total) }
     ensures refused { IfErr result (IsUnfitEither copy.now payload own total) }
     ensures kinds { IfErr result (λ f. is_underway_restore_failure f ≡ false) }
+    ensures no_memory { IfErr result (λ f. f ≢ UnderwayRestoreFault.Restore NoMemory) }
 {
     match judge_layout(copy, Data::Elsewhere, own) {
         Ok(()) => judge_there(copy, payload, total),
@@ -110,6 +113,7 @@ fn judge_there(
     ensures fits { OnOk result (HasNoFault copy.now payload total) }
     ensures refused { IfErr result (IsUnfitThere copy.now payload total) }
     ensures kinds { IfErr result (λ f. is_underway_restore_failure f ≡ false) }
+    ensures no_memory { IfErr result (λ f. f ≢ UnderwayRestoreFault.Restore NoMemory) }
 {
     match judge_layout(copy, payload, total) {
         Ok(()) => Ok(()),
@@ -132,6 +136,7 @@ fn judge_standing<B: Device, T: Device>(
         (B.failed backup.new) (T.failed target.old) (T.failed target.new) }
     ensures kept { IsUnchanged B.tells B.size B.bytes B.unsettled backup.old backup.new }
     ensures unchanged { IsUnchanged T.tells T.size T.bytes T.unsettled target.old target.new }
+    ensures no_memory { IfErr result (λ f. f ≢ UnderwayRestoreFault.Restore NoMemory) }
     ensures barred { B.tells → T.tells
         → IfErr result (IsBarred (B.bytes backup.old) (T.bytes target.old) over) }
     ensures clear { B.tells → T.tells → OnOk result ((so : TheStanding)
@@ -150,6 +155,7 @@ fn judge_standing<B: Device, T: Device>(
 fn judge_over(standing: Standing, over: OverUnderway) -> Result<(), UnderwayRestoreFault>
     ensures clear { OnOk result (is_over over standing ≡ true) }
     ensures barred { IfErr result (IsBarredBy over standing) }
+    ensures no_memory { IfErr result (λ f. f ≢ UnderwayRestoreFault.Restore NoMemory) }
 {
     match standing {
         Standing::Nothing | Standing::Same => Ok(()),

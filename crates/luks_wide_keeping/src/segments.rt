@@ -1,5 +1,5 @@
 //! Segments that a header and its key areas would be put over.
-ghost use Rattle.std.specs.Prelude.{◌≡◌, ◌↔◌, ◌<◌, ℕ, IsTrue, MatchOption};
+ghost use Rattle.std.specs.Prelude.{◌≡◌, ◌↔◌, ◌^◌, ◌<◌, ℕ, IsTrue, MatchOption};
 ghost use Rattle.luks_reading.specs.declared.report.Data.TheVariants.{Here};
 ghost use Rattle.luks_wider.specs.Underways.{content};
 ghost use Rattle.luks_wide_keeping.specs.Layout.{IsSegmentBelow};
@@ -52,7 +52,8 @@ fn is_below(copy: &UnderwayCopy, n: u8, size: Option<u64>) -> bool
 
 /// Whether the byte place stands before this end, or none is known that a device has.
 fn begins_below(offset: u64, end: Option<u64>) -> bool
-    ensures { IsTrue result ↔ IsBelow offset end }
+    ensures below { IsTrue result ↔ IsBelow offset end }
+    ensures fits { offset < 2 ^ 64 }
 {
     match end {
         Some(end) => offset < end,

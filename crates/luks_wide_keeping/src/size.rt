@@ -1,5 +1,5 @@
 //! How many bytes a header and its key areas' region have.
-ghost use Rattle.std.specs.Prelude.{◌≡◌, ◌↔◌, ◌*◌, ◌^◌, ◌≤◌, ◌<◌, ℕ, List, IfErr, IfOk, IsTrue};
+ghost use Rattle.std.specs.Prelude.{◌≡◌, ◌↔◌, ◌+◌, ◌*◌, ◌^◌, ◌≤◌, ℕ, List, IfErr, IfOk, IfSome, IsNone, IsTrue};
 ghost use Rattle.luks_reading.specs.declared.report.Data.TheVariants.{Elsewhere};
 ghost use Rattle.luks_keeping.specs.Backup.{IsBackupSize};
 ghost use Rattle.luks_keeping.specs.Laid.{IsShortFor};
@@ -13,9 +13,24 @@ use luks_wide_reading::UnderwayCopy;
 pub(crate) fn whole_size(copy: &UnderwayCopy) -> Option<u64>
     ensures { IsKnownSize copy.now result }
 {
-    let region = copy.meta.config().keyslots_size;
-    let header = copy.header.hdr_size.checked_mul(2)?;
-    header.checked_add(region)
+    let config = copy.meta.config();
+    both_and_region(copy.header.hdr_size, config.keyslots_size)
+}
+
+/// The bytes of two copies of this size and the region behind them.
+fn both_and_region(size: u64, region: u64) -> Option<u64>
+    ensures some { IfSome result (λ all. all ≡ 2 * size + region) }
+    ensures none { IsNone result → 2 ^ 64 ≤ 2 * size + region }
+{
+    if size >= 1 << 63 {
+        return None;
+    }
+    let header = 2 * size;
+    if header <= u64::MAX - region {
+        Some(header + region)
+    } else {
+        None
+    }
 }
 
 /// The bytes of the backup, which a device of `total` bytes holds.

@@ -11,7 +11,7 @@ use Rattle.luks_wider.specs.Underways.{content}
 use Rattle.luks_wide_keeping.specs.Backup.{IsUnderwayUnmade}
 use Rattle.luks_wide_keeping.specs.Layout.{FitsUnderway, IsLayoutFault}
 use Rattle.luks_wide_keeping.proofs.CopyFacts.{fits, least_fault}
-use Rattle.luks_wide_keeping.proofs.MadeFacts.{can_back_up, has_header, made, of_backup, reads_there, unmade_checked, unmade_short}
+use Rattle.luks_wide_keeping.proofs.MadeFacts.{can_back_up, has_header, made, no_memory, of_backup, reads_there, unmade_checked, unmade_short}
 use Rattle.luks_wide_keeping.proofs.PlacesFacts.{apart, inside_of, lead_first, whole_region}
 use Rattle.luks_wide_keeping.proofs.backing_up.back_up_underway.Goals as goal
 
@@ -139,3 +139,8 @@ returns-clause-reads g c = λ source tells other is.
     reads_there v w copy other (c.requires.of source)
     (has_header v copy (c.requires.of source) c.len-3.result c.places_of-places.result c.places_of-places.ensures enough w (c.in_ok-write_backup.ensures.copied source tells).header (c.in_ok-write_backup.ensures.lead tells))
     (omega (arith, long, enough, total)) (omega (arith, length_w, size, within, target, whole)) is
+
+pub returns-in_err-judge_layout-clause-no_memory : goal.returns-in_err-judge_layout-clause-no_memory
+returns-in_err-judge_layout-clause-no_memory g c =
+    let p = err_from_is_err_and c.from_residual.result c.from_residual.ensures.1 in
+    rw (p.1, p.2) (no_memory c.in_err-judge_layout.field-0.0 c.in_err-judge_layout.ensures.no_memory)

@@ -3,11 +3,11 @@ use Rattle.std.proofs.lemmas.Result.{err_from_is_err_and}
 use Rattle.luks_reading.specs.declared.report.Data.TheVariants.{Elsewhere}
 use Rattle.luks_keeping.specs.BackupFaults.{checked_backup, is_backup_failure}
 use Rattle.luks_keeping.specs.declared.backup_fault.BackupFault.{BackupFault}
-use Rattle.luks_keeping.specs.declared.backup_fault.BackupFault.TheVariants.{TooSmall}
+use Rattle.luks_keeping.specs.declared.backup_fault.BackupFault.TheVariants.{Memory, TooSmall}
 use Rattle.luks_keeping.proofs.BackupFacts.{same_failure}
 use Rattle.luks_wide_keeping.specs.Backup.{IsUnderwayUnmade}
 use Rattle.luks_wide_keeping.proofs.CopyFacts.{fits, least_fault}
-use Rattle.luks_wide_keeping.proofs.MadeFacts.{length_made, unmade_checked, unmade_short}
+use Rattle.luks_wide_keeping.proofs.MadeFacts.{length_made, no_memory, unmade_checked, unmade_short}
 use Rattle.luks_wide_keeping.proofs.backing_up.underway_length.Goals as goal
 
 pub returns-in_err-judge_layout-clause-fault : goal.returns-in_err-judge_layout-clause-fault
@@ -54,3 +54,15 @@ returns-clause-faultless g c = λ source.
     let long : c.len.result ≡ length v = c.len.ensures ∙ sym (g.met.S.Device.sized c.args.source.now source) in
     length_made v 18446744073709551615 (fits v c.args.copy.now (c.requires source) Elsewhere (length v) (rw (sym long) c.in_ok-judge_layout.ensures.fits)) c.fitting_size.result
     (c.fitting_size.ensures.size v (c.requires source)) c.fitting_size.ensures.within
+
+pub returns-in_err-judge_layout-clause-no_memory : goal.returns-in_err-judge_layout-clause-no_memory
+returns-in_err-judge_layout-clause-no_memory g c =
+    let p = err_from_is_err_and c.from_residual.result c.from_residual.ensures.1 in
+    rw (p.1, p.2) (no_memory c.in_err-judge_layout.field-0.0 c.in_err-judge_layout.ensures.no_memory)
+
+none_memory : {A : Type 0} (r : Result A BackupFault) → IfErr r (λ f. f ≡ TooSmall) → IfErr r (λ f. f ≡ Memory → ⊥)
+none_memory (Ok x) own = tt
+none_memory (Err f) own = λ e. (let no : TooSmall ≡ Memory = sym own ∙ e in cc)
+
+pub returns-clause-no_memory : goal.returns-clause-no_memory
+returns-clause-no_memory g c = none_memory c.fitting_size.result c.fitting_size.ensures.own

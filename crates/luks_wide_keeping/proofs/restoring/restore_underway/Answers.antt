@@ -1,6 +1,7 @@
 use Rattle.std.proofs.Common.{◌≡◌, ℕ, ◌+◌, ◌*◌, ◌≤◌, List, length, min, true, false, refl, sym, ap, subst, ◌∙◌, arith}
 use Rattle.std.proofs.lemmas.Bool.{true≢false}
 use Rattle.std.proofs.lemmas.Result.{err_from_is_err_and}
+use Rattle.luks_area.specs.Device.{unchanged-then}
 use Rattle.luks_area.specs.Ranges.{IsOfEither, SameBut}
 use Rattle.luks_area.proofs.RangeFacts.{same_but-equal, same_but-same}
 use Rattle.luks_writing.proofs.CountFacts.{counts_none}
@@ -16,20 +17,6 @@ use Rattle.luks_wide_keeping.proofs.RestoredFacts.{barred, can_restore, failed_a
 use Rattle.luks_wide_keeping.proofs.restoring.restore_underway.Goals as goal
 
 -- ---- the places
-
-pub places_of-requires : goal.places_of-requires
-places_of-requires g c =
-    let here = c.in_ok-judge_fit.ensures.here in
-    let there = c.in_ok-judge_fit.ensures.there in
-    let own = c.len.ensures in
-    let volume = c.len-2.ensures in
-    let own_later = c.len-3.ensures in
-    let volume_later = c.len-4.ensures in
-    let kept = c.in_ok-judge_standing.ensures.kept.size in
-    let unchanged = c.in_ok-judge_standing.ensures.unchanged.size in
-    let least = c.min-total.ensures in
-    let room : 2 * c.args.copy.now.header.hdr_size ≤ c.min-total.result = omega (arith, here, there, own, volume, own_later, volume_later, kept, unchanged, least) in
-    room
 
 pub write_over-requires-clause-lead : goal.write_over-requires-clause-lead
 write_over-requires-clause-lead g c =
@@ -250,3 +237,19 @@ returns-clause-reads g c = λ source tells other is.
     reads_there b w c.args.copy.now other (c.requires.of source)
     (has_header b c.args.copy.now (c.requires.of source) c.min-total.result c.places_of-places.result c.places_of-places.ensures room w held.header (c.in_ok-write_over.ensures.lead tells))
     (omega (arith, room, least, own_later, kept, long_b)) (omega (arith, room, least, volume_later, long_w, size)) is
+
+pub returns-clause-kept : goal.returns-clause-kept
+returns-clause-kept g c = unchanged-then c.in_ok-judge_standing.ensures.kept c.in_ok-write_over.ensures.kept
+
+pub returns-in_err-write_over-clause-kept : goal.returns-in_err-write_over-clause-kept
+returns-in_err-write_over-clause-kept g c = unchanged-then c.in_ok-judge_standing.ensures.kept c.in_err-write_over.ensures.kept
+
+pub returns-in_err-judge_fit-clause-no_memory : goal.returns-in_err-judge_fit-clause-no_memory
+returns-in_err-judge_fit-clause-no_memory g c =
+    let p = err_from_is_err_and c.from_residual.result c.from_residual.ensures.1 in
+    rw (p.1, p.2) c.in_err-judge_fit.ensures.no_memory
+
+pub returns-in_err-judge_standing-clause-no_memory : goal.returns-in_err-judge_standing-clause-no_memory
+returns-in_err-judge_standing-clause-no_memory g c =
+    let p = err_from_is_err_and c.from_residual-in_err-judge_standing.result c.from_residual-in_err-judge_standing.ensures.1 in
+    rw (p.1, p.2) c.in_err-judge_standing.ensures.no_memory

@@ -16,8 +16,8 @@ returns-in-Some-V2-clause-stands g c = λ source tells.
     let own = subst (IsSelected b) c.in-Some-V2.field-0-is (subst (FindsSelected b) c.in-Some-V2.is (c.in_ok-header.ensures.found source)) in
     subst (λ (l : List ℕ). IfOk c.standing_beside.result (StandsSo l t)) same_b
     (subst (λ (l : List ℕ). IfOk c.standing_beside.result (StandsSo (g.B.Device.bytes c.selected-2.new.device) l)) same_t
-    (c.standing_beside.ensures.stands source tells _
-    (subst (λ (l : List ℕ). IsSelected l (V2 c.in-Some-V2.header _)) (sym same_b) own) (subst (λ (l : List ℕ). IsSelected l c.in-Some.there) (sym same_t) there)))
+    (c.standing_beside.ensures.stands source tells c.in-Some-V2.field-0-1
+    (subst (λ (l : List ℕ). IsSelected l (V2 c.in-Some-V2.header c.in-Some-V2.field-0-1)) (sym same_b) own) (subst (λ (l : List ℕ). IsSelected l c.in-Some.there) (sym same_t) there)))
 
 pub returns-in-Some-V1-clause-stands : goal.returns-in-Some-V1-clause-stands
 returns-in-Some-V1-clause-stands g c = λ source tells.
