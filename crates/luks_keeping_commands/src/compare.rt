@@ -168,7 +168,7 @@ fn compare_copy<D: Device, E: Write>(
         backup.old backup.new volume.old volume.new) result }
 {
     match read_wide_header(alloc, volume) {
-        Ok(_) => compare_states(backup, copy, volume, name, comparing, err),
+        Ok(_header) => compare_states(backup, copy, volume, name, comparing, err),
         Err(WideReadFault::Underway { fault, .. }) => underway_answer(fault),
         Err(WideReadFault::Read(fault)) => refused(CheckFault::from(fault), name, err),
     }
