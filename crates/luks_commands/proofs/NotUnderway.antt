@@ -1,10 +1,9 @@
 -- Where the narrow reading reads the header, or refuses the selection of a copy or its uuid, nothing is under way.
-use Rattle.std.proofs.Common.{◌≡◌, ℕ, List, subst, sym}
+use Rattle.std.proofs.Common.{◌≡◌, ℕ, List, subst}
 use Rattle.luks1_header.specs.declared.fault.HeadFault.{HeadFault}
-use Rattle.luks2_header.specs.Selection.{Choice, luks1, luks2, nothing, Chosen}
+use Rattle.luks2_header.specs.Selection.{Choice, luks1, luks2, Chosen}
 use Rattle.luks2_header.proofs.ChoiceFacts.{choices_agree}
 use Rattle.luks_meta.specs.Content.{content}
-use Rattle.luks_reading.specs.declared.header.ChosenCopy.{ChosenCopy}
 use Rattle.luks_reading.specs.declared.header.Header.{Header}
 use Rattle.luks_reading.specs.declared.header.Header.TheVariants.{Luks1, Luks2}
 use Rattle.luks_reading.specs.declared.read_fault.ReadFault.{ReadFault}

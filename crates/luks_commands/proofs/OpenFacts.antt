@@ -6,7 +6,7 @@ use Rattle.luks_reading.specs.declared.open_fault.OpenFault.{OpenFault}
 use Rattle.luks_reading.specs.declared.open_fault.OpenFault.TheVariants.{Head, Meta, NoSuchSlot, SlotFree, Outside, Slot, Device, Memory}
 use Rattle.luks_reading.specs.declared.read_fault.ReadFault.{ReadFault}
 use Rattle.luks_reading.specs.declared.read_fault.ReadFault.TheVariants as reading
-use Rattle.luks_reading.specs.Answer.{no_key, opened_to, opens, refused, AnswerWithin as Gives, IsRefusedByWithin}
+use Rattle.luks_reading.specs.Answer.{opened_to, refused as refused_by, AnswerWithin as Gives, IsRefusedByWithin}
 use Rattle.luks_reading.specs.Conversions.{unread_opened}
 use Rattle.luks_reading.specs.Failures.{is_open_failure, is_read_failure}
 use Rattle.luks_reading.specs.Header.{IsUnread, NeedsMetadata}
@@ -114,9 +114,9 @@ answers_named tells is allowed v w n p before after a same read = answered a
     now t = (t, subst is (sym (same t)) (read t))
 
     answered : (b : Answer) → IsOneAnswer (tells × is w) allowed w n p before after b → IsOneAnswer tells allowed v n p before after b
-    answered (Opens m) x = (x.0, x.1, λ t. subst (λ u. (key : List ℕ) × Gives allowed u n p (opens key)) (same t) (x.2 (now t)))
-    answered (Closed m) x = (x.0, x.1, λ t. subst (λ u. Gives allowed u n p no_key) (same t) (x.2 (now t)))
-    answered (Refused (Open f)) x = (x.0, λ t. subst (λ u. Gives allowed u n p (refused f)) (same t) (x.1 (now t)))
+    answered (Opens m) x = (x.0, x.1, λ t. subst (λ u. (key : List ℕ) × Gives allowed u n p (opened_to (Some key))) (same t) (x.2 (now t)))
+    answered (Closed m) x = (x.0, x.1, λ t. subst (λ u. Gives allowed u n p (opened_to None)) (same t) (x.2 (now t)))
+    answered (Refused (Open f)) x = (x.0, λ t. subst (λ u. Gives allowed u n p (refused_by f)) (same t) (x.1 (now t)))
     answered DeviceFault x = x
     answered NoMemory x = (x.0, λ t. subst NeedsMetadata (same t) (x.1 (now t)))
     answered b x = absurd x

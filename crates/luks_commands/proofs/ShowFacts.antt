@@ -31,13 +31,13 @@ use Rattle.luks_request.specs.declared.request.ShowAs.{ShowAs}
 use Rattle.luks_request.specs.declared.request.ShowAs.TheVariants.{Lines, All, Map as AsMap, Tables as AsTables, Tokens as AsTokens, Token as AsToken, Json as AsJson}
 use Rattle.luks_map.specs.Map.{IsMap}
 use Rattle.luks_wide_reading.specs.declared.read_fault.WideReadFault.TheVariants.{Read}
-use Rattle.luks_wide_reading.specs.Headers.{IsUnderWayVolume, IsWideUnread}
+use Rattle.luks_wide_reading.specs.Headers.{IsWideUnread}
 use Rattle.luks_edit.specs.declared.edit_fault.EditFault.{EditFault}
 use Rattle.luks_edit.specs.declared.edit_fault.EditFault.TheVariants.{NoSuchToken}
 use Rattle.luks_show.specs.declared.listing.Listing.{Listing}
 use Rattle.luks_show.specs.declared.listing.Listing.TheVariants.{Luks1, Luks2}
 use Rattle.luks_commands.specs.declared.answers.Answer.{Answer}
-use Rattle.luks_commands.specs.declared.answers.Answer.TheVariants.{Listed, ListedFully, Mapped, Tokens, Json, Refused, DeviceFault, NoMemory}
+use Rattle.luks_commands.specs.declared.answers.Answer.TheVariants.{Listed, Json, Refused, DeviceFault, NoMemory}
 use Rattle.luks_commands.specs.declared.answers.Refusal.TheVariants.{Check, Edit}
 use Rattle.luks_commands.specs.Answer.{check_fault_answer}
 use Rattle.luks_commands.specs.Lost.{IsLost}

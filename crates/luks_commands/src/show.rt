@@ -1,5 +1,5 @@
 //! The command `show`.
-ghost use Rattle.std.specs.Prelude.{◌≡◌, ◌≢◌, ◌+◌, ◌<◌, ◌^◌, IfErr};
+ghost use Rattle.std.specs.Prelude.{◌≢◌, ◌+◌, ◌<◌, ◌^◌, IfErr};
 ghost use Rattle.std.specs.Result.{ForOk};
 ghost use Rattle.luks_area.specs.Device.{IsUnchanged};
 ghost use Rattle.luks_commands.specs.Answer.{answer_status};

@@ -36,7 +36,7 @@ pub fn note_under_way<E: Write>(meta: &Underway, volume: &str, err: &mut E) -> i
 
 fn note_words<E: Write>(words: Words<'_>, volume: &str, err: &mut E) -> io::Result<()>
     ensures { OnOk result (Appends (E.contents err.old) (E.contents err.new)
-        (said_of volume.now (reencryption_words words.members words.sides.old words.sides.new words.part)
+        (said_of volume.now (reencryption_words words.entry.members words.entry.sides.old words.entry.sides.new words.entry.part)
         ++ said_of volume.now resuming_words)) }
 {
     say_words(words, volume, err)?;
@@ -45,7 +45,7 @@ fn note_words<E: Write>(words: Words<'_>, volume: &str, err: &mut E) -> io::Resu
 
 fn say_words<E: Write>(words: Words<'_>, volume: &str, err: &mut E) -> io::Result<()>
     ensures { OnOk result (Appends (E.contents err.old) (E.contents err.new)
-        (said_of volume.now (reencryption_words words.members words.sides.old words.sides.new words.part))) }
+        (said_of volume.now (reencryption_words words.entry.members words.entry.sides.old words.entry.sides.new words.entry.part))) }
 {
     writeln!(err, "luks: {volume}: {words}")
 }

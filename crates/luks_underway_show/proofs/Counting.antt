@@ -1,5 +1,5 @@
 -- What is listed of the numbers below one, and the least of which a test holds.
-use Rattle.std.proofs.Common.{◌≡◌, ℕ, zero, suc, ◌+◌, ◌<◌, List, [], ◌++◌, codes, Bool, true, false, cond, Option, Some, None, IfSome, MatchOption, is_some, refl, sym, ◌∙◌, ap, subst, arith, add-one, inl, inr}
+use Rattle.std.proofs.Common.{◌≡◌, ℕ, zero, suc, ◌+◌, ◌<◌, List, [], ◌++◌, codes, Bool, true, false, cond, Option, Some, None, IfSome, MatchOption, is_some, refl, sym, ◌∙◌, arith, add-one, inl, inr}
 use Rattle.std.specs.Option.{option_map_or}
 use Rattle.std.proofs.lemmas.Bool.{cases_eq, false≢true}
 use Rattle.serde_json.specs.Data.{Data}

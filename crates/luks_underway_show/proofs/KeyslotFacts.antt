@@ -1,5 +1,5 @@
 -- The lines of a keyslot, by its record.
-use Rattle.std.proofs.Common.{◌≡◌, ℕ, List, [], ◌∷◌, ◌++◌, codes, Option, Some, None, refl, ap₂, append_assoc}
+use Rattle.std.proofs.Common.{◌≡◌, ℕ, List, ◌++◌, codes, Option, Some, refl, ap₂, append_assoc}
 use Rattle.std.specs.Fmt.{decimal}
 use Rattle.serde_json.specs.Data.{Data}
 use Rattle.luks_rules.specs.declared.table.Outer.TheVariants as outer
@@ -26,21 +26,20 @@ kdf_told d (cost.Pbkdf2 c) tells = tells.0
 kdf_told d (cost.Argon2i c) tells = tells.0
 kdf_told d (cost.Argon2id c) tells = tells.0
 
-regrouped : (n b k o s e t : List ℕ) →
-    (codes "keyslot " ++ n ++ codes " key-bytes " ++ b ++ codes " kdf " ++ k) ++ (codes " area " ++ o ++ codes " " ++ s ++ codes " " ++ e ++ line t)
-    ≡ codes "keyslot " ++ n ++ codes " key-bytes " ++ b ++ codes " kdf " ++ k ++ codes " area " ++ (o ++ codes " " ++ s) ++ codes " " ++ e ++ line t
-regrouped n b k o s e t = simp append_assoc refl
+regrouped : (a n b y c k d o e s f g t : List ℕ) → (a ++ n ++ b ++ y ++ c ++ k) ++ (d ++ o ++ e ++ s ++ f ++ g ++ t)
+    ≡ a ++ n ++ b ++ y ++ c ++ k ++ d ++ (o ++ e ++ s) ++ f ++ g ++ t
+regrouped a n b y c k d o e s f g t = simp append_assoc
 
 key_told : (j : Data) (n : ℕ) (d : Data) (k : Keyslot) (digest : Option ℕ) → TellsKeyslot d k → keyslot_digest j n ≡ digest
     → keyslot_line n k digest ≡ key_line j n d
 key_told j n d k digest tells of =
     let area = tells.4 in
-    rw (of, tells.1, kdf_told d k.kdf.cost tells.5.0, area.1, area.3, area.4) (regrouped (decimal n) (decimal k.key_size) (kdf_text k.kdf.cost) (decimal k.area.offset) (decimal k.area.size) (escaped k.area.encryption.now) (digest_text digest))
+    rw (of, tells.1, kdf_told d k.kdf.cost tells.5.0, area.1, area.3, area.4) (regrouped (codes "keyslot ") (decimal n) (codes " key-bytes ") (decimal k.key_size) (codes " kdf ") (kdf_text k.kdf.cost) (codes " area ") (decimal k.area.offset) (codes " ") (decimal k.area.size) (codes " ") (escaped k.area.encryption.now) (line (digest_text digest)))
 
 costs_told : (n : ℕ) (d : Data) (c : Cost) → TellsCost d c → costs_line n c ≡ costs_listed n d
 costs_told n d (cost.Pbkdf2 c) tells = rw (tells.0, tells.1, tells.2) refl
-costs_told n d (cost.Argon2i c) tells = let costs = tells.1 in rw (tells.0, costs.0, costs.1, costs.2) refl
-costs_told n d (cost.Argon2id c) tells = let costs = tells.1 in rw (tells.0, costs.0, costs.1, costs.2) refl
+costs_told n d (cost.Argon2i c) tells = let costs = tells.1 in rw (tells.0, tells.0, costs.0, costs.1, costs.2) refl
+costs_told n d (cost.Argon2id c) tells = let costs = tells.1 in rw (tells.0, tells.0, costs.0, costs.1, costs.2) refl
 
 salt_told : (n : ℕ) (d : Data) (k : Keyslot) → TellsKeyslot d k → salt_line n k.kdf.salt.items ≡ salt_listed n d
 salt_told n d k tells = rw tells.5.1 refl

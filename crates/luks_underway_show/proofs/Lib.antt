@@ -4,3 +4,4 @@ mod ReencryptFacts
 mod KeyslotFacts
 mod SegmentFacts
 mod ObjectFacts
+mod ValueFacts

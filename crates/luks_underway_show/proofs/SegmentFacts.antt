@@ -1,5 +1,5 @@
 -- The lines of a segment, by its record.
-use Rattle.std.proofs.Common.{◌≡◌, ℕ, List, [], ◌++◌, codes, Option, Some, refl, ap₂, append_assoc, append-nil}
+use Rattle.std.proofs.Common.{◌≡◌, ℕ, List, ◌++◌, codes, Option, Some, refl, sym, ap₂, append_assoc, append-nil}
 use Rattle.std.specs.Fmt.{decimal}
 use Rattle.serde_json.specs.Data.{Data}
 use Rattle.luks_rules.specs.declared.table.Outer.TheVariants as outer
@@ -7,6 +7,7 @@ use Rattle.luks_rules.specs.Faults.{type_at}
 use Rattle.luks_meta.specs.declared.member.Extent.{Extent}
 use Rattle.luks_meta.specs.declared.member.Extent.TheVariants.{Fixed, Dynamic}
 use Rattle.luks_meta.specs.Says.{extent_field}
+use Rattle.luks_show.specs.AllLines.{encryption_line}
 use Rattle.luks_show.specs.Texts.{line}
 use Rattle.luks_underway.specs.declared.segments.WideKind.{WideKind}
 use Rattle.luks_underway.specs.declared.segments.WideKind.TheVariants as wide
@@ -28,16 +29,14 @@ extent_told : (e : Extent) → extent_text e ≡ extent_shown (Some (extent_fiel
 extent_told (Fixed n) = refl
 extent_told Dynamic = refl
 
-regrouped : (n k o s t : List ℕ) →
-    (codes "segment " ++ n ++ codes " " ++ k) ++ (codes " " ++ o ++ codes " " ++ s ++ line t)
-    ≡ codes "segment " ++ n ++ codes " " ++ k ++ codes " " ++ o ++ codes " " ++ s ++ line t
-regrouped n k o s t = simp append_assoc refl
+regrouped : (a n b k c o d s t : List ℕ) → (a ++ n ++ b ++ k) ++ (c ++ o ++ d ++ s ++ t) ≡ a ++ n ++ b ++ k ++ c ++ o ++ d ++ s ++ t
+regrouped a n b k c o d s t = simp append_assoc
 
 members_told : (n : ℕ) (d : Data) (s : WideSegment) (flags : Option Data) → TellsWideSegment d s → flags_at d ≡ flags → members_text n s flags ≡ segment_line n d
-members_told n d s flags tells has = rw (has, kind_told d s.kind tells.kind, tells.offset, tells.size, ← extent_told s.size) (regrouped (decimal n) (kind_text s.kind) (decimal s.offset) (extent_text s.size) (flags_shown flags))
+members_told n d s flags tells has = rw (has, kind_told d s.kind tells.kind, tells.offset, tells.size, ← extent_told s.size) (regrouped (codes "segment ") (decimal n) (codes " ") (kind_text s.kind) (codes " ") (decimal s.offset) (codes " ") (extent_text s.size) (line (flags_shown flags)))
 
 encryption_told : (n : ℕ) (d : Data) (k : WideKind) → TellsWideKind d k → encryption_text n k ≡ further_segment_lines All n d
-encryption_told n d (wide.Crypt e) tells = rw (tells.0, tells.1, tells.2, tells.3) (simp append-nil refl)
+encryption_told n d (wide.Crypt e) tells = rw (tells.0, tells.1, tells.2, tells.3) (sym (append-nil (encryption_line n e)))
 encryption_told n d wide.Linear tells = rw tells refl
 encryption_told n d (wide.HwOpal o) tells = let range = tells.1 in rw (tells.0, range.0, range.1, range.2) refl
 encryption_told n d (wide.HwOpalCrypt o e) tells =

@@ -1,6 +1,6 @@
 -- The lines of keyslots, as the object `d` with the number `n` of the metadata `j` says them: of those that keep a key, and of the one that says what is under
 -- way (LUKS2 On-Disk Format 1.1.3, 3.2).
-use Rattle.std.specs.Prelude.{ℕ, List, [], ◌++◌, codes, Bool, ◌||◌, if◌then◌else◌, Option}
+use Rattle.std.specs.Prelude.{ℕ, List, [], ◌++◌, codes, Bool, ◌||◌, if◌then◌else◌}
 use Rattle.std.specs.Fmt.{decimal}
 use Rattle.std.specs.Option.{option_map_or}
 use Rattle.std.specs.Str.{bytes_eq}

@@ -9,7 +9,6 @@ use Rattle.luks_meta.specs.declared.member.Extent.TheVariants.{Fixed, Dynamic}
 use Rattle.luks_show.specs.AllLines.{costs_line, encryption_line, salt_line}
 use Rattle.luks_show.specs.Luks2Lines.{keyslot_line}
 use Rattle.luks_show.specs.Texts.{escaped, line}
-use Rattle.luks_underway.specs.declared.opal.Opal.{Opal}
 use Rattle.luks_underway.specs.declared.reencryption.ReencryptArea.{ReencryptArea}
 use Rattle.luks_underway.specs.declared.reencryption.Reencryption.{Reencryption}
 use Rattle.luks_underway.specs.declared.resilience.Checksum.{Checksum}

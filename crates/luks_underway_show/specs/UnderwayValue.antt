@@ -1,5 +1,5 @@
 -- The JSON object of a copy of a LUKS2 header in which something is under way (docs/PROFILE.md, 11).
-use Rattle.std.specs.Prelude.{◌≡◌, ℕ, ◌<◌, List, codes, false, Option, Some, None}
+use Rattle.std.specs.Prelude.{◌≡◌, ℕ, ◌<◌, codes, false, Option, Some, None}
 use Rattle.serde_json.specs.Data.{Data, Members, no_members, null, number, object, put, string, unsigned}
 use Rattle.serde_json.specs.View.{view}
 use Rattle.luks_rules.specs.declared.table.Section.TheVariants.{Segments}

@@ -1,6 +1,5 @@
 -- The line of a part, by its record.
-use Rattle.std.proofs.Common.{◌≡◌, ℕ, ◌-◌, ◌/◌, List, [], ◌++◌, codes, Bool, true, false, nat_eq, cond, Option, Some, refl, ap, ap₂, ◌∙◌}
-use Rattle.std.specs.Option.{option_map_or}
+use Rattle.std.proofs.Common.{◌≡◌, ℕ, ◌/◌, List, [], ◌++◌, codes, true, false, nat_eq, cond, Option, Some, refl, ap, ap₂, ◌∙◌}
 use Rattle.serde_json.specs.Data.{Data}
 use Rattle.luks_rules.specs.declared.table.Member.TheVariants as name
 use Rattle.luks_rules.specs.declared.table.Outer.TheVariants as outer

@@ -1,5 +1,5 @@
 -- Sectors and lines of the segments below one.
-use Rattle.std.proofs.Common.{◌≡◌, ℕ, ◌+◌, List, [], ◌++◌, refl, add-one}
+use Rattle.std.proofs.Common.{◌≡◌, ℕ, ◌+◌, [], ◌++◌, refl, add-one}
 use Rattle.serde_json.specs.Data.{Data}
 use Rattle.luks_underway_tables.specs.Table.{part_listed, parts_below, place_below, sectors_at}
 

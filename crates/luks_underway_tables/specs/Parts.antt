@@ -1,6 +1,6 @@
 -- The lines of a table, by the records that are read of segments. That they are those of the metadata's value is a part of each contract that has the value
 -- (`Table`).
-use Rattle.std.specs.Prelude.{ℕ, ◌-◌, ◌/◌, List, [], ◌++◌, codes, Bool, nat_eq, if◌then◌else◌, Option}
+use Rattle.std.specs.Prelude.{ℕ, ◌-◌, ◌/◌, List, [], ◌++◌, codes, nat_eq, if◌then◌else◌, Option}
 use Rattle.std.specs.Fmt.{decimal}
 use Rattle.luks_meta.specs.declared.member.Extent.{Extent}
 use Rattle.luks_meta.specs.declared.member.Extent.TheVariants.{Fixed, Dynamic}

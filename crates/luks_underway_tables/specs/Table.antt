@@ -1,7 +1,7 @@
 -- The table of dmsetup by which data is read of a volume in whose metadata `j` something is under way, and whose data ends at byte `end`: a line for each
 -- segment that isn't a backup, by number, each behind the one before it (LUKS2 On-Disk Format 1.1.3, 3.3; the tables of the kernel's targets `crypt`, `linear`
 -- and `error`). All places and lengths in it are in sectors of 512 bytes. `DEVICE` stands for the device that has the data.
-use Rattle.std.specs.Prelude.{ℕ, zero, suc, ◌+◌, ◌-◌, ◌/◌, List, [], ◌++◌, codes, Bool, nat_eq, if◌then◌else◌, Option, Some, None, option_and_then, unwrap_or}
+use Rattle.std.specs.Prelude.{ℕ, zero, suc, ◌+◌, ◌-◌, ◌/◌, List, [], ◌++◌, codes, nat_eq, if◌then◌else◌, Option, Some, None, option_and_then, unwrap_or}
 use Rattle.std.specs.Fmt.{decimal}
 use Rattle.std.specs.Option.{option_map_or}
 use Rattle.serde_json.specs.Data.{Data}
@@ -9,7 +9,7 @@ use Rattle.luks_rules.specs.declared.table.Member.TheVariants as name
 use Rattle.luks_rules.specs.declared.table.Outer.TheVariants as outer
 use Rattle.luks_rules.specs.declared.table.Section.TheVariants.{Segments}
 use Rattle.luks_rules.specs.Faults.{member_at, object_at}
-use Rattle.luks_rules.specs.Reading.{Field, dynamic, whole, decimal_in, extent_of, text_of}
+use Rattle.luks_rules.specs.Reading.{Field, whole, decimal_in, extent_of, text_of}
 use Rattle.luks_show.specs.Texts.{line}
 use Rattle.luks_underway.specs.Kinds.{is_hot, is_kept_back}
 use Rattle.luks_underway.specs.Segments.{sector_size_at}

@@ -2,8 +2,8 @@
 
 ghost use Rattle.std.specs.Prelude.{◌≡◌, ◌≤◌, Some};
 ghost use Rattle.std.specs.Fmt.{WritesOnOk};
-ghost use Rattle.luks_underway_tables.specs.Table.{key_word};
-ghost use Rattle.luks_underway_tables.specs.Parts.{crypt_text, length_of, part_text, place_text, sector_size_text, sectors_of, target_text};
+ghost use Rattle.luks_underway_tables.specs.Parts.{crypt_text, length_of, part_text, sector_size_text, sectors_of, target_text};
+ghost use Rattle.luks_underway_tables.specs.Table.{key_word, place_text};
 
 use luks_meta::{Encryption, Extent};
 use luks_show::Escaped;

@@ -1,22 +1,19 @@
 -- What is said of a copy that was read is said of its volume; and a volume that has its header reads the same.
-use Rattle.std.proofs.Common.{◌≡◌, ℕ, ◌+◌, ◌*◌, ◌-◌, ◌≤◌, List, length, refl, sym, ap, subst, ◌∙◌, arith}
+use Rattle.std.proofs.Common.{◌≡◌, ℕ, ◌+◌, ◌*◌, ◌-◌, ◌≤◌, List, length, sym, ap, subst, ◌∙◌, arith}
 use Rattle.serde_json.specs.Data.{Data as Value}
 use Rattle.luks_area.specs.First.{IsLeast}
 use Rattle.luks2_header.proofs.ChoiceFacts.{choices_agree, chosen_is_sound}
 use Rattle.luks2_header.proofs.CopyFacts.{listed_at_least}
 use Rattle.luks2_header.specs.Header2.{hdr_size, header_at, uuid_field, HoldsBin2, IsUuidFault, IsUuidField}
 use Rattle.luks2_header.specs.Selection.{luks2, nothing, Chosen}
-use Rattle.luks2_header.specs.declared.selection.Copies.{Copies}
 use Rattle.luks_json.specs.AreaText.{Json}
 use Rattle.luks_rules.proofs.AreaFaults.{one_value}
-use Rattle.luks_rules.specs.declared.fault.MetaFault.{MetaFault}
 use Rattle.luks_reading.specs.Checked.{check_key}
 use Rattle.luks_reading.specs.Header.{json_at, read_key, IsReadFaultAs, IsUnread}
 use Rattle.luks_reading.specs.declared.check_fault.CheckFault.{CheckFault}
 use Rattle.luks_reading.specs.declared.read_fault.ReadFault.{ReadFault}
 use Rattle.luks_reading.specs.declared.read_fault.ReadFault.TheVariants as reading
 use Rattle.luks_reading.specs.declared.report.Data.{Data}
-use Rattle.luks_reading.specs.declared.report.Data.TheVariants.{Elsewhere}
 use Rattle.luks_reading.proofs.ReadFaults.{as_unread, unread_as}
 use Rattle.luks_rules.specs.MetaFault.{IsMetaFault}
 use Rattle.luks_keeping.specs.Backup.{IsBackupSize, IsLuks2Size}

@@ -1,5 +1,5 @@
 -- The first fault of a layout, and where there is none.
-use Rattle.std.proofs.Common.{◌≡◌, ◌↔◌, ℕ, ◌+◌, ◌*◌, ◌^◌, ◌<◌, ◌≤◌, ◌&&◌, codes, Bool, IsTrue, not, Option, Some, None, IfSome, IsNone, Result, Ok, Err, IfErr, OnOk, option_and_then, arith, refl, sym, ap, subst, ◌∙◌, inl, inr, true, false}
+use Rattle.std.proofs.Common.{◌≡◌, ◌↔◌, ℕ, ◌+◌, ◌*◌, ◌^◌, ◌<◌, ◌≤◌, codes, Bool, IsTrue, not, Option, Some, None, IfSome, IsNone, Result, Ok, Err, IfErr, OnOk, option_and_then, arith, refl, sym, ap, subst, ◌∙◌, inl, inr, true, false}
 use Rattle.std.proofs.lemmas.Bool.{cases_lt, false≢true}
 use Rattle.serde_json.specs.Find.{get}
 use Rattle.serde_json.specs.Data.{Data as Value}
@@ -17,7 +17,6 @@ use Rattle.luks_meta.specs.declared.configuration.Config.{Config}
 use Rattle.luks_meta.specs.declared.keyslots.Keyslot.{Keyslot}
 use Rattle.luks_reading.specs.Layout2.{segment_offset}
 use Rattle.luks_keeping.proofs.SlotFacts.{no_slot}
-use Rattle.luks_underway.specs.Kinds.{is_kept_back}
 use Rattle.luks_underway.specs.Reencryptions.{TellsReencryption}
 use Rattle.luks_underway.specs.Segments.{TellsWideSegment}
 use Rattle.luks_underway.specs.Slots.{TellsWideKeyslot}

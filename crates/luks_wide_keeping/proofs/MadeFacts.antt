@@ -1,5 +1,5 @@
 -- What copying both copies of a header and the whole region makes.
-use Rattle.std.proofs.Common.{◌≡◌, ◌≢◌, ℕ, ◌+◌, ◌*◌, ◌-◌, ◌<◌, ◌≤◌, List, Some, length, true, false, min, replicate, get_or, refl, sym, ap, subst, ◌∙◌, arith, inl, inr, Result, Ok, Err, IfOk, OnOk}
+use Rattle.std.proofs.Common.{◌≡◌, ◌≢◌, ℕ, ◌+◌, ◌*◌, ◌-◌, ◌<◌, ◌≤◌, List, length, false, min, replicate, get_or, refl, sym, ap, subst, ◌∙◌, arith, inl, inr, Result, Ok, Err, IfOk, OnOk}
 use Rattle.std.proofs.lemmas.Bool.{cases_lt, true≢false}
 use Rattle.std.proofs.lemmas.List.{get_or_past}
 use Rattle.luks_area.specs.First.{NotAfter, IsLeast}
@@ -13,19 +13,17 @@ use Rattle.luks_reading.specs.Failures.{is_check_failure}
 use Rattle.luks_reading.specs.declared.check_fault.CheckFault.{CheckFault}
 use Rattle.luks_reading.specs.declared.check_fault.CheckFault.TheVariants as check
 use Rattle.luks_reading.specs.declared.report.Data.{Data}
-use Rattle.luks_reading.specs.declared.report.Data.TheVariants.{Elsewhere, Here}
-use Rattle.luks_rules.specs.Sizes.{keyslots_size}
+use Rattle.luks_reading.specs.declared.report.Data.TheVariants.{Elsewhere}
 use Rattle.luks_keeping.specs.Backup.{IsBackupSize}
 use Rattle.luks_keeping.specs.BackupFaults.{backup_key, checked_backup, IsOfBackup, IsShort}
 use Rattle.luks_keeping.specs.Kept.{lead_of, HasHeader}
 use Rattle.luks_keeping.specs.Places.{header_end, HoldsAll, HoldsHeader, IsOfPlaces, IsOfWhole}
-use Rattle.luks_keeping.specs.Restored.{IsFrontAs, IsOfOlder}
+use Rattle.luks_keeping.specs.Restored.{IsFrontAs}
 use Rattle.luks_keeping.specs.SecondPlaces.{IsOfCopies}
 use Rattle.luks_keeping.specs.declared.backup_fault.BackupFault.{BackupFault}
 use Rattle.luks_keeping.specs.declared.backup_fault.BackupFault.TheVariants.{NotAccepted, TooSmall, Memory, Device}
 use Rattle.luks_keeping.specs.declared.places.Places.{Places}
 use Rattle.luks_keeping.proofs.SizeFacts.{one_size}
-use Rattle.luks_wider.specs.Underways.{content}
 use Rattle.luks_wide_reading.specs.declared.copy.UnderwayCopy.{UnderwayCopy}
 use Rattle.luks_wide_reading.specs.Headers.{IsUnderwayCopy}
 use Rattle.luks_wide_keeping.specs.Backup.{CanBackUpUnderway, IsUnderwayBackup, IsUnderwayBackupFault, IsUnderwayUnmade}

@@ -1,30 +1,21 @@
 -- What is answered of a backup that isn't restored.
-use Rattle.std.proofs.Common.{◌≡◌, ℕ, List, length, Bool, true, false, Result, Ok, Err, IfErr, OnOk, refl, sym, ap, subst, ◌∙◌}
-use Rattle.std.proofs.lemmas.Bool.{true≢false}
-use Rattle.luks_writing.specs.TwoDevices.{CountsEither, IsOneFailure}
+use Rattle.std.proofs.Common.{◌≡◌, ℕ, List, length, true, Result, Ok, Err, IfErr, OnOk, ap, subst, ◌∙◌}
+use Rattle.luks_writing.specs.TwoDevices.{IsOneFailure}
 use Rattle.luks_reading.specs.declared.report.Data.{Data}
 use Rattle.luks_reading.specs.declared.report.Data.TheVariants.{Elsewhere}
 use Rattle.luks_keeping.specs.declared.restore_fault.RestoreFault.TheVariants as restore
 use Rattle.luks_wide_reading.specs.declared.copy.UnderwayCopy.{UnderwayCopy}
 use Rattle.luks_wide_reading.specs.Headers.{IsUnderwayCopy}
-use Rattle.luks_wide_keeping.specs.Restored.{is_over, is_underway_restore_failure, CanRestoreUnderway, FitsBoth, HasNoFault, IsBarred, IsBarredBy, IsUnderwayUnrestored, IsUnfitEither}
+use Rattle.luks_wide_keeping.specs.Restored.{is_over, CanRestoreUnderway, FitsBoth, HasNoFault, IsBarred, IsBarredBy, IsUnderwayUnrestored, IsUnfitEither}
 use Rattle.luks_wide_keeping.specs.Standings.{StandsSo}
 use Rattle.luks_wide_keeping.specs.declared.over.OverUnderway.{OverUnderway}
 use Rattle.luks_wide_keeping.specs.declared.restore_fault.UnderwayRestoreFault.{UnderwayRestoreFault}
 use Rattle.luks_wide_keeping.specs.declared.restore_fault.UnderwayRestoreFault.TheVariants.{Restore, Progressed}
 use Rattle.luks_wide_keeping.specs.declared.standing.Standing.{Standing}
-use Rattle.luks_wide_keeping.specs.declared.standing.Standing.TheVariants as standing
 use Rattle.luks_wide_keeping.proofs.CopyFacts.{fits, least_fault}
 use Rattle.luks_wide_keeping.proofs.StandingFacts.{one_standing}
 
 -- ---- the header that counts
-
--- each may be written over where both kinds may
-pub over_both : (over : OverUnderway) → over.another ≡ true → over.progressed ≡ true → (so : Standing) → is_over over so ≡ true
-over_both over another progressed standing.Nothing = refl
-over_both over another progressed standing.Another = another
-over_both over another progressed standing.Same = refl
-over_both over another progressed standing.Progressed = progressed
 
 -- what bars one that stands so bars the one that counts
 pub barred_there : (b t : List ℕ) (over : OverUnderway) (so : Standing) (r : Result Unit UnderwayRestoreFault) → StandsSo b t so → IfErr r (IsBarredBy over so) → IfErr r (IsBarred b t over)
@@ -37,14 +28,6 @@ pub clear_there : (b t : List ℕ) (over : OverUnderway) (so : Standing) (r : Re
     → OnOk r ((other : Standing) → StandsSo b t other → is_over over other ≡ true)
 clear_there b t over so (Ok done) stands x = λ other y. ap (is_over over) (one_standing b t so other stands y) ∙ x
 clear_there b t over so (Err f) stands x = tt
-
--- no call failed
-pub barred_own : (over : OverUnderway) (so : Standing) (r : Result Unit UnderwayRestoreFault) (s u : ℕ) → IfErr r (IsBarredBy over so)
-    → CountsEither is_underway_restore_failure r s s u u
-barred_own over so (Ok done) s u x = (refl, refl)
-barred_own over so (Err (Restore restore.OtherVolume)) s u x = (refl, refl)
-barred_own over so (Err Progressed) s u x = (refl, refl)
-barred_own over so (Err other) s u x = absurd x
 
 -- ---- the answers
 

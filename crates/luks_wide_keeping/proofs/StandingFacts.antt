@@ -1,6 +1,5 @@
 -- How a header that was selected stands to that of a backup.
-use Rattle.std.proofs.Common.{◌≡◌, ◌≢◌, ◌↔◌, ℕ, List, Bool, true, false, IsTrue, refl, sym, ap, subst, ◌∙◌}
-use Rattle.std.proofs.lemmas.Bool.{false≢true}
+use Rattle.std.proofs.Common.{◌≡◌, ◌≢◌, ℕ, List, refl, sym, ap, ◌∙◌}
 use Rattle.luks_area.specs.Ranges.{part}
 use Rattle.luks2_header.proofs.ChoiceFacts.{choices_agree}
 use Rattle.luks2_header.specs.Header2.{header_at, seqid, uuid_field}
@@ -14,7 +13,7 @@ use Rattle.luks_reading.proofs.ReadFaults.{same_json}
 use Rattle.luks_keeping.specs.OtherHeaders.{selected_choice, selected_uuid}
 use Rattle.luks_keeping.specs.SameVolume.{uuid_bytes, HasAnyHeader}
 use Rattle.luks_keeping.proofs.SameFacts.{any_selected}
-use Rattle.luks_wide_keeping.specs.Counting.{json_of, IsSameMetadata}
+use Rattle.luks_wide_keeping.specs.Counting.{IsSameMetadata}
 use Rattle.luks_wide_keeping.specs.Standings.{HasOneUuid, IsSameState, StandsSo}
 use Rattle.luks_wide_keeping.specs.declared.standing.Standing.{Standing}
 use Rattle.luks_wide_keeping.specs.declared.standing.Standing.TheVariants.{Nothing, Another, Same, Progressed}

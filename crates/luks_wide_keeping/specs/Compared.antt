@@ -3,7 +3,6 @@ use Rattle.std.specs.Prelude.{◌≡◌, ℕ, ◌+◌, ◌≤◌, ◌<◌, List,
 use Rattle.serde_json.specs.Data.{Data as Value}
 use Rattle.luks_area.specs.Ranges.{part}
 use Rattle.luks_area.specs.declared.area.Area.{Area}
-use Rattle.luks_keeping.specs.declared.comparison.Comparison.{Comparison}
 use Rattle.luks_keeping.specs.declared.comparison.Keeping.{Keeping}
 use Rattle.luks_keeping.specs.declared.comparison.Keeping.TheVariants.{Absent, Same, Older, Missing, Removed, Damaged}
 use Rattle.luks_wide_keeping.specs.Layout.{HasKeyArea}

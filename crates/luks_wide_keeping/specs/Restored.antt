@@ -14,7 +14,6 @@ use Rattle.luks_keeping.specs.Backup.{IsLuks2Size}
 use Rattle.luks_keeping.specs.Kept.{lead_of}
 use Rattle.luks_keeping.specs.Restored.{IsOfOlder}
 use Rattle.luks_keeping.specs.RestoreFaults.{is_restore_failure}
-use Rattle.luks_keeping.specs.declared.restore_fault.RestoreFault.{RestoreFault}
 use Rattle.luks_keeping.specs.declared.restore_fault.RestoreFault.TheVariants as restore
 use Rattle.luks_wider.specs.Underways.{content}
 use Rattle.luks_wide_reading.specs.declared.copy.UnderwayCopy.{UnderwayCopy}

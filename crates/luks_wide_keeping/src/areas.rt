@@ -19,11 +19,7 @@ use luks_wide_reading::{Underway, UnderwayCopy, WideKeyslot};
 
 /// The first fault of a device of `total` bytes with this header: a segment by which data is read begins before
 /// the end of the key areas' region, the second copy has no room, or a key area hasn't.
-pub(crate) fn judge_layout(
-    copy: &UnderwayCopy,
-    payload: Data,
-    total: u64,
-) -> Result<(), CheckFault>
+pub(crate) fn judge_layout(copy: &UnderwayCopy, payload: Data, total: u64) -> Result<(), CheckFault>
     ensures header { OnOk result (2 * copy.now.header.hdr_size ≤ total) }
     ensures fits { OnOk result ((f : TheFault)
         → IsLayoutFault copy.now.header.hdr_size (content copy.now.meta) payload total f → ⊥) }

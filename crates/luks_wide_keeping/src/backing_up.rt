@@ -25,8 +25,9 @@ use luks_wide_reading::UnderwayCopy;
 /// is overwritten without question. The source never changes.
 ///
 /// Refused by `NotAccepted`, before the first write, where the second copy has no room in the source, or a key
-/// area hasn't, by the name that `check` has for it; and by `TooSmall`. Written as `backup` writes: no older
-/// header counts once a byte of a key area has changed.
+/// area hasn't, by the name that `check` has for it; and by `TooSmall`. Written in the order of `backup`: first the
+/// whole range becomes zeros, then the region is written, then the second copy of the header, then the first, a
+/// flush after each.
 pub fn back_up_underway<S: Device, T: Device>(
     source: &mut S,
     copy: &UnderwayCopy,

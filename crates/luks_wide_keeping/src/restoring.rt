@@ -30,8 +30,10 @@ use luks_wide_reading::UnderwayCopy;
 ///
 /// `payload` says where the data of the target's volume lies. Before the first write it is asked how the header
 /// that counts on the target stands to the backup's: one that isn't of the very same state is refused by
-/// `Progressed`, since data was moved or encrypted anew since. Written as `restore` writes: no older header counts
-/// once a byte of a key area has changed; a broken-off restore is done again.
+/// `Progressed`, since data was moved or encrypted anew since. Written in the order of `restore`: first the first
+/// sectors of both copies' places become zeros, and those where an older second copy begins, then the region is
+/// written, then the second copy of the header, then the first, a flush after each; a broken-off restore is done
+/// again.
 pub fn restore_underway<B: Device, T: Device>(
     backup: &mut B,
     copy: &UnderwayCopy,
@@ -97,18 +99,12 @@ fn judge_fit(
 {
     match judge_layout(copy, Data::Elsewhere, own) {
         Ok(()) => judge_there(copy, payload, total),
-        Err(fault) => Err(UnderwayRestoreFault::Restore(RestoreFault::NotAccepted(
-            fault,
-        ))),
+        Err(fault) => Err(UnderwayRestoreFault::Restore(RestoreFault::NotAccepted(fault))),
     }
 }
 
 /// That of the volume as it would be.
-fn judge_there(
-    copy: &UnderwayCopy,
-    payload: Data,
-    total: u64,
-) -> Result<(), UnderwayRestoreFault>
+fn judge_there(copy: &UnderwayCopy, payload: Data, total: u64) -> Result<(), UnderwayRestoreFault>
     ensures there { OnOk result (2 * copy.now.header.hdr_size ≤ total) }
     ensures fits { OnOk result (HasNoFault copy.now payload total) }
     ensures refused { IfErr result (IsUnfitThere copy.now payload total) }
@@ -117,9 +113,7 @@ fn judge_there(
 {
     match judge_layout(copy, payload, total) {
         Ok(()) => Ok(()),
-        Err(fault) => Err(UnderwayRestoreFault::Restore(RestoreFault::DoesNotFit(
-            fault,
-        ))),
+        Err(fault) => Err(UnderwayRestoreFault::Restore(RestoreFault::DoesNotFit(fault))),
     }
 }
 

@@ -7,7 +7,7 @@ ghost use Rattle.luks_wide_keeping.specs.Whole.{IsBelow, IsFirstOf, IsKnownSize}
 
 use crate::size::whole_size;
 use luks_reading::Data;
-use luks_wide_reading::{Underway, UnderwayCopy};
+use luks_wide_reading::UnderwayCopy;
 
 /// With the data here, the least segment by which data is read that begins before the end of the key areas'
 /// region.

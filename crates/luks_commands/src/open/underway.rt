@@ -87,7 +87,7 @@ fn open_named<D: Device, E: Write>(
             Answer::Closed(n)
         }
         Err(fault) => {
-            note_fault(&ground_of(trial, device.len()), n, fault, err);
+            note_fault(&ground_of(trial, device.len()), n, &fault, err);
             refused_keyslot(fault)
         }
     }

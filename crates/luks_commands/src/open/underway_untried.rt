@@ -32,7 +32,7 @@ impl<'a> Ground<'a> {
 
 /// Says of the keyslot `n`, which was named, what would have it tried where it is refused, and how much memory
 /// it asks for where memory was.
-pub(crate) fn note_fault<E: Write>(ground: &Ground<'_>, n: u8, fault: WideOpenFault, err: &mut E) {
+pub(crate) fn note_fault<E: Write>(ground: &Ground<'_>, n: u8, fault: &WideOpenFault, err: &mut E) {
     match fault {
         WideOpenFault::Open(OpenFault::Slot(_)) => note_refused(ground, n, err),
         WideOpenFault::Open(OpenFault::Memory) => note_wanting(ground, n, err),

@@ -1,5 +1,8 @@
-use Rattle.std.proofs.Common.{inl, inr, refl, subst, sym, ◌∙◌}
+use Rattle.std.proofs.Common.{inl, inr, refl, subst, sym, ap, ◌∙◌}
+use Rattle.luks_area.specs.Device.{count_after}
+use Rattle.luks_wide_reading.specs.Faults.{is_wide_read_failure}
 use Rattle.luks_wide_reading.specs.Headers.{IsWideHeader, IsWideUnread}
+use Rattle.luks_commands.specs.Answer.{check_fault_answer}
 use Rattle.luks_commands.specs.ShowAnswers.{IsShownAs}
 use Rattle.luks_commands.proofs.ShowFacts.{shows_header, shows_unread}
 use Rattle.luks_commands.proofs.show.show_device.Goals as goal
@@ -17,9 +20,9 @@ returns-clause-answers g c =
           (subst (λ x. IsShownAs c.args.form c.len-2.result x c.shown_as.result) w.answer-is c.shown_as.ensures.answers)
       | in-Err-Read w ↦ shows_unread c.args.form c.len-2.result g.D.Device.tells v _ _ w.in-Err-Read.fault _
           (λ tells. g.met.D.Device.sized c.args.device.now tells ∙ sym w.in-Err-Read.ensures.unchanged.size ∙ sym c.len-2.ensures)
-          w.in-Err-Read.ensures.count
+          (w.in-Err-Read.ensures.count ∙ ap (λ f. count_after (is_wide_read_failure f) (g.D.Device.failed c.args.device.now)) w.in-Err-Read.field-0-is)
           (λ tells. subst (IsWideUnread v) w.in-Err-Read.field-0-is (w.in-Err-Read.ensures.refused tells))
-          (subst (λ x. IsShownAs c.args.form c.len-2.result x c.shown_as.result) (w.answer-is ∙ w.refused-answer.ensures.answer) c.shown_as.ensures.answers)
+          (subst (λ x. IsShownAs c.args.form c.len-2.result x c.shown_as.result) (w.answer-is ∙ w.refused-answer.ensures.answer ∙ ap check_fault_answer w.from.ensures) c.shown_as.ensures.answers)
     ]
 
 pub returns-in-Ok-Underway-clause-answers : goal.returns-in-Ok-Underway-clause-answers
@@ -36,7 +39,7 @@ returns-in-Ok-Underway-clause-answers g c = inr (
 
 pub returns-in-Err-Underway-clause-answers : goal.returns-in-Err-Underway-clause-answers
 returns-in-Err-Underway-clause-answers g c = inr (
-  c.in-Err-Underway.ensures.count,
+  c.in-Err-Underway.ensures.count ∙ ap (λ f. count_after (is_wide_read_failure f) (g.D.Device.failed c.args.device.now)) c.in-Err-Underway.field-0-is,
   inr (record {
     fault = c.in-Err-Underway.fault;
     is = refl;

@@ -1,7 +1,11 @@
-use Rattle.std.proofs.Common.{refl}
+use Rattle.std.proofs.Common.{[], refl}
+use Rattle.std.proofs.KnownBytes.{Appends-nil}
 use Rattle.std.proofs.lemmas.Result.{on_ok_weaker}
-use Rattle.luks_underway_said.specs.Said.{said}
+use Rattle.luks_underway_said.specs.Said.{nothing, said}
 use Rattle.luks_underway_said.proofs.said.note_under_way.Goals as goal
+
+pub returns-in_default : goal.returns-in_default
+returns-in_default g c = ([], nothing (λ n below. c.in_default.ensures n below) refl, Appends-nil _)
 
 pub returns : goal.returns
 returns g c =

@@ -5,7 +5,6 @@ use Rattle.serde_json.specs.View.{view}
 use Rattle.luks_rules.specs.declared.table.Section.TheVariants.{Tokens}
 use Rattle.luks_rules.specs.Faults.{object_at}
 use Rattle.luks_show.specs.Steering.{unsteering}
-use Rattle.luks_show.specs.TokenText.{IsTokenText}
 use Rattle.luks_show.proofs.SteeringFacts.{unsteering_steerless}
 use Rattle.luks_wider.specs.Underways.{content}
 use Rattle.luks_underway_show.proofs.tokens.underway_token_text.Goals as goal

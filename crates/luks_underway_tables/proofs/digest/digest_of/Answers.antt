@@ -1,4 +1,4 @@
-use Rattle.std.proofs.Common.{◌≡◌, ◌<◌, true, false, arith, below_more, codes, sym}
+use Rattle.std.proofs.Common.{◌≡◌, false, arith, below_more, codes, sym}
 use Rattle.serde_json.specs.View.{view}
 use Rattle.luks_underway.specs.Sides.{is_named}
 use Rattle.luks_underway_tables.proofs.Least.{least_first, least_none}

@@ -1,4 +1,4 @@
-use Rattle.std.proofs.Common.{◌≡◌, ◌<◌, ◌≤◌, ap, arith, rules, sym, ◌∙◌, ap₂, ◌+◌, ◌++◌}
+use Rattle.std.proofs.Common.{◌≡◌, ap, arith, rules, sym, ◌∙◌, ap₂, ◌+◌, ◌++◌}
 use Rattle.std.proofs.Output.{has_written_append, has_written_of_eq}
 use Rattle.luks_wider.specs.Underways.{content}
 use Rattle.luks_underway_tables.specs.Table.{part_listed, parts_below}
@@ -15,7 +15,7 @@ loop-n-init g c = record {
 pub overflow_add-place : goal.overflow_add-place
 overflow_add-place g c =
     let few = c.loop-n.invariant.few in
-    let more = c.sectors_at.ensures.few in
+    let more = c.sectors_at-place.ensures.few in
     let below = c.loop-n-test.true in
     omega (arith, few, more, below)
 
@@ -23,9 +23,9 @@ pub loop-n-preserved : goal.loop-n-preserved
 loop-n-preserved g c =
     let j = content c.args.meta.now in
     let few = c.loop-n.invariant.few in
-    let more = c.sectors_at.ensures.few in
+    let more = c.sectors_at-place.ensures.few in
     record {
-      place = ap₂ (λ a b. a + b) c.loop-n.invariant.place c.sectors_at.ensures.are ∙ place_more c.args.end j c.loop-n.n;
+      place = ap₂ (λ a b. a + b) c.loop-n.invariant.place c.sectors_at-place.ensures.are ∙ place_more c.args.end j c.loop-n.n;
       few = omega (arith, few, more);
       written = λ plain.
           let before = c.loop-n.invariant.written plain in

@@ -1,4 +1,4 @@
-use Rattle.std.proofs.Common.{◌∙◌, ap}
+use Rattle.std.proofs.Common.{◌∙◌}
 use Rattle.luks_underway_tables.proofs.PartFacts.{sectors_told}
 use Rattle.luks_underway_tables.proofs.table.sectors_at.Goals as goal
 

@@ -1,4 +1,3 @@
-use Rattle.std.proofs.Common.{◌+◌, ◌≤◌, arith}
 use Rattle.std.proofs.lemmas.Bool.{false≢true}
 use Rattle.luks_wider.specs.Underways.{content}
 use Rattle.luks_wide_keeping.proofs.LayoutFacts.{past_is}

@@ -1,15 +1,11 @@
-use Rattle.std.proofs.Common.{◌≡◌, ℕ, ◌+◌, ◌*◌, ◌≤◌, List, length, true, false, refl, sym, ap, subst, ◌∙◌, arith}
+use Rattle.std.proofs.Common.{◌≡◌, ℕ, ◌*◌, ◌≤◌, List, length, true, false, refl, sym, ap, subst, ◌∙◌, arith}
 use Rattle.std.proofs.lemmas.Bool.{true≢false}
 use Rattle.std.proofs.lemmas.Result.{err_from_is_err_and}
 use Rattle.luks_writing.proofs.CountFacts.{counts_none}
-use Rattle.luks_reading.specs.declared.check_fault.CheckFault.{CheckFault}
 use Rattle.luks_reading.specs.declared.report.Data.TheVariants.{Elsewhere}
 use Rattle.luks_keeping.specs.BackupFaults.{checked_backup, is_backup_failure, IsShort}
-use Rattle.luks_keeping.specs.Places.{HoldsAll}
 use Rattle.luks_keeping.proofs.BackupFacts.{same_failure}
-use Rattle.luks_wider.specs.Underways.{content}
 use Rattle.luks_wide_keeping.specs.Backup.{IsUnderwayUnmade}
-use Rattle.luks_wide_keeping.specs.Layout.{FitsUnderway, IsLayoutFault}
 use Rattle.luks_wide_keeping.proofs.CopyFacts.{fits, least_fault}
 use Rattle.luks_wide_keeping.proofs.MadeFacts.{can_back_up, has_header, made, no_memory, of_backup, reads_there, unmade_checked, unmade_short}
 use Rattle.luks_wide_keeping.proofs.PlacesFacts.{apart, inside_of, lead_first, whole_region}

@@ -1,5 +1,4 @@
-use Rattle.std.proofs.Common.{◌≡◌, ℕ, List, true, sym, subst, ◌∙◌}
-use Rattle.luks_wide_keeping.proofs.RestoredFacts.{barred_own, barred_there, clear_there, over_both}
+use Rattle.luks_wide_keeping.proofs.RestoredFacts.{barred_there, clear_there}
 use Rattle.luks_wide_keeping.proofs.restoring.judge_standing.Goals as goal
 
 pub returns-in-Ok-clause-barred : goal.returns-in-Ok-clause-barred

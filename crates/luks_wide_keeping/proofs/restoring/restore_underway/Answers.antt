@@ -1,9 +1,9 @@
-use Rattle.std.proofs.Common.{◌≡◌, ℕ, ◌+◌, ◌*◌, ◌≤◌, List, length, min, true, false, refl, sym, ap, subst, ◌∙◌, arith}
+use Rattle.std.proofs.Common.{◌≡◌, ℕ, ◌*◌, ◌≤◌, List, length, true, false, refl, sym, subst, ◌∙◌, arith}
 use Rattle.std.proofs.lemmas.Bool.{true≢false}
 use Rattle.std.proofs.lemmas.Result.{err_from_is_err_and}
 use Rattle.luks_area.specs.Device.{unchanged-then}
 use Rattle.luks_area.specs.Ranges.{IsOfEither, SameBut}
-use Rattle.luks_area.proofs.RangeFacts.{same_but-equal, same_but-same}
+use Rattle.luks_area.proofs.RangeFacts.{same_but-equal}
 use Rattle.luks_writing.proofs.CountFacts.{counts_none}
 use Rattle.luks2_header.specs.Selection.{luks2}
 use Rattle.luks_reading.specs.declared.report.Data.TheVariants.{Elsewhere}

@@ -1,4 +1,4 @@
-use Rattle.std.proofs.Common.{refl, arith}
+use Rattle.std.proofs.Common.{refl}
 use Rattle.std.proofs.lemmas.Bool.{false≢true}
 use Rattle.luks_wider.specs.Underways.{content}
 use Rattle.luks_wide_keeping.proofs.LayoutFacts.{no_segment, segment_is}

@@ -1,4 +1,4 @@
-use Rattle.std.proofs.Common.{◌≡◌, arith, map, rules, subst, sym}
+use Rattle.std.proofs.Common.{◌≡◌, arith, map, subst, sym}
 use Rattle.serde_json.specs.View.{view}
 use Rattle.luks_wider.specs.Underways.{content}
 use Rattle.luks_underway_show.specs.KeyslotValues.{AreKeyslots, start}

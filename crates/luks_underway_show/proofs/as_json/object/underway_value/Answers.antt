@@ -17,7 +17,7 @@ returns c = record {
   told_under_way = c.in_ok-under_way.ensures;
   is =
       c.from.ensures
-      ∙ ap object (c.in_ok-put.ensures
+      ∙ ap object (c.in_ok-put.ensures.ok
       ∙ ap (put (codes "under_way") (view c.in_ok-under_way.under_way)) (c.in_ok-put_objects.ensures
       ∙ ap (with_objects c.in_ok-objects.objects) (c.in_ok-members.ensures
       ∙ ap (λ sizes. copy_members c.args.copy.header c.args.copy.copies sizes c.in_ok-texts.texts) c.in_ok-sizes.ensures)));
