@@ -1,5 +1,5 @@
 -- What `backup` leaves and answers, by what it met.
-use Rattle.std.proofs.Common.{◌≡◌, List, ℕ, Bool, Result, Ok, Err, OnOk, IfErr, true, false, inl, inr, refl, ap, subst, arith}
+use Rattle.std.proofs.Common.{◌≡◌, List, ℕ, Bool, Result, Ok, Err, OnOk, IfErr, true, false, inl, inr, refl, sym, ap, subst, ◌∙◌, arith}
 use Rattle.std.proofs.lemmas.Bool.{true≢false}
 use Rattle.luks_area.specs.Device.{IsSettled, IsUnchanged}
 use Rattle.luks_area.proofs.DeviceFacts.{settled_unchanged}
@@ -7,6 +7,7 @@ use Rattle.luks2_header.specs.Selection.{Choice, Chosen}
 use Rattle.luks_writing.specs.TwoDevices.{CountsAfter}
 use Rattle.luks_reading.specs.declared.report.Data.{Data}
 use Rattle.luks_rules.specs.declared.fault.MetaFault.{MetaFault}
+use Rattle.luks_reading.specs.declared.check_fault.CheckFault.{CheckFault}
 use Rattle.luks_reading.specs.declared.check_fault.CheckFault.TheVariants as check
 use Rattle.luks_reading.specs.declared.read_fault.ReadFault.{ReadFault}
 use Rattle.luks_reading.specs.declared.read_fault.ReadFault.TheVariants as reading
@@ -33,7 +34,7 @@ use Rattle.luks_commands.specs.declared.inputs.Reason.{Reason}
 use Rattle.luks_commands.specs.declared.inputs.Reason.TheVariants as reason
 use Rattle.luks_commands.specs.Answer.{backup_fault_answer, unread_answer}
 use Rattle.luks_keeping_commands.specs.BackingUp.{AnswersBackup, IsBackupAnswer, IsMadeAnswer, IsNewBackup, IsNewUnderway, IsRescueAnswer, IsUnderwayMade, IsUnderwayUnkept, IsUnmadeAnswer, IsWithoutFile, KeepsRest}
-use Rattle.luks_keeping_commands.specs.TwoFiles.{Pair}
+use Rattle.luks_keeping_commands.specs.TwoFiles.{NoneFailed, Pair}
 
 -- a file that no call was made on has kept its rest
 pub keeps_same : (payload : Data) (volume file : List ℕ) → KeepsRest payload volume file file
@@ -63,6 +64,25 @@ fault_other v payload total Device x other u = tt
 -- a backup that was made is none of such a volume
 pub done_other : (v : List ℕ) (payload : Data) (total : ℕ) → CanBackUp v payload total → IsUnderWayVolume v → ⊥
 done_other v payload total can u = no_meta_fault v payload (λ g bad. can.none (NotAccepted (check.Meta g)) bad) u
+
+-- so where both files are there
+pub made_fault : (tells : Type 0) (payload : Data) (d : Pair) (f g : BackupFault) → f ≡ g → CountsAfter (is_backup_failure f) d.source_before d.source_after d.before d.after
+    → (is_backup_failure f ≡ false → tells → d.new ≡ d.old) → (tells → IsAnsweredBackup d.source payload d.total f)
+    → ((m : MetaFault) → g ≡ NotAccepted (check.Meta m) → ⊥) → IsMadeAnswer false tells payload d (backup_fault_answer g)
+made_fault tells payload d f g e count same is other =
+    subst (λ (h : BackupFault). IsMadeAnswer false tells payload d (backup_fault_answer h)) e
+    (inl (answers_fault tells payload d f count same is, λ told u. fault_other d.source payload d.total f (is told) (λ m x. other m (sym e ∙ x)) u))
+
+-- `check` refuses a volume in whose metadata something is under way by a fault of the metadata
+pub refused_other : (v : List ℕ) (payload : Data) (total : ℕ) (f : CheckFault) → IsAnsweredBackup v payload total (NotAccepted f) → ((m : MetaFault) → f ≡ check.Meta m → ⊥)
+    → IsUnderWayVolume v → ⊥
+refused_other v payload total f x other u = first_other v payload f (x.0, λ g bad. (x.1 (NotAccepted g) bad).1 refl) other u
+
+-- and where `check` refused the volume before
+pub made_refused : (tells : Type 0) (payload : Data) (d : Pair) (f : CheckFault) → NoneFailed d → (tells → d.new ≡ d.old)
+    → (tells → IsAnsweredBackup d.source payload d.total (NotAccepted f)) → (tells → IsUnderWayVolume d.source → ⊥)
+    → IsMadeAnswer false tells payload d (backup_fault_answer (NotAccepted f))
+made_refused tells payload d f none same is other = inl ((none, same, is), λ told u. absurd (other told u))
 
 -- what isn't read by the wider reading has nothing under way
 pub unread_other : (v : List ℕ) (f : ReadFault) → IsWideUnread v (unread.Read f) → (f ≡ reading.Device → ⊥) → (f ≡ reading.Memory → ⊥) → IsUnderWayVolume v → ⊥

@@ -1,14 +1,16 @@
 -- What `restore` leaves and answers, by what it met.
 use Rattle.std.proofs.Common.{◌≡◌, ◌↔◌, ◌⊎◌, inl, inr, List, ℕ, Bool, true, false, IsTrue, IfErr, OnOk, Result, Ok, Err, refl, sym, subst, ◌∙◌, length}
 use Rattle.std.proofs.lemmas.Bool.{false≢true}
+use Rattle.luks_area.specs.Device.{count_after}
 use Rattle.luks_area.specs.Ranges.{part, SameBut}
 use Rattle.luks_area.specs.declared.area.Area.{Area}
 use Rattle.luks_writing.specs.TwoDevices.{CountsAfter, CountsEither}
 use Rattle.luks2_header.specs.Selection.{Choice, Chosen}
 use Rattle.luks_reading.specs.declared.report.Data.{Data}
 use Rattle.luks_reading.specs.declared.report.Data.TheVariants.{Elsewhere}
-use Rattle.luks_reading.specs.Checked.{IsCheckRefusal, WellFormed}
+use Rattle.luks_reading.specs.Checked.{First, IsCheckRefusal, WellFormed}
 use Rattle.luks_reading.specs.Header.{NeedsMetadata}
+use Rattle.luks_reading.specs.Failures.{is_check_failure}
 use Rattle.luks_reading.specs.Reported.{IsFromOutside}
 use Rattle.luks_reading.specs.declared.check_fault.CheckFault.{CheckFault}
 use Rattle.luks_reading.proofs.CheckFacts.{outside}
@@ -39,9 +41,10 @@ use Rattle.luks_wide_keeping.specs.Restored.{CanRestoreUnderway, IsOfUnderway, I
 use Rattle.luks_wide_keeping.specs.Standings.{HasOneUuid}
 use Rattle.luks_wide_keeping.specs.declared.restore_fault.UnderwayRestoreFault.{UnderwayRestoreFault}
 use Rattle.luks_wide_keeping.specs.declared.restore_fault.UnderwayRestoreFault.TheVariants as underway
-use Rattle.luks_keeping_commands.specs.RestoringUnderway.{IsNewUnderwayVolume, IsUnderwayPutBack, IsUnused, over_underway, underway_restore_answer}
+use Rattle.luks_keeping_commands.specs.RestoringUnderway.{IsNewUnderwayVolume, IsUnderwayPutBack, IsUnderwayUseBar, IsUnused, over_underway, underway_restore_answer}
 use Rattle.luks_keeping_commands.proofs.Lifted.{lifted, lifted_new, none_after, one_after, same_after, IsBefore}
 use Rattle.luks_keeping_commands.proofs.NarrowFacts.{first_other}
+use Rattle.luks_keeping.proofs.RestoreFaultFacts.{answered_refusal}
 use Rattle.luks_commands.specs.Answer.{restore_fault_answer}
 use Rattle.luks_request.specs.declared.keeping.Restoring.{Restoring}
 use Rattle.luks_commands.specs.declared.inputs.InputFault.{InputFault}
@@ -290,3 +293,38 @@ restore_holds {D} tells size bytes failed r (Ok old) (Ok new) (Ok backup) (Err f
 restore_holds {D} tells size bytes failed r (Ok old) (Ok new) (Err f) backup_new a said = tt
 restore_holds {D} tells size bytes failed r (Ok old) (Err f) backup backup_new a said = tt
 restore_holds {D} tells size bytes failed r (Err f) new backup backup_new a said = tt
+
+-- ---- a backup that `check` refuses by this fault, which isn't one of the metadata
+
+pub put_fault : (tells : Type 0) (how : Restoring) (d : Pair) (f g : CheckFault) → f ≡ g → d.source_after ≡ count_after (is_check_failure f) d.source_before → d.after ≡ d.before
+    → (tells → d.new ≡ d.old) → (tells → IsCheckRefusal d.source Elsewhere f) → ((m : MetaFault) → g ≡ check.Meta m → ⊥)
+    → IsPutBackAnswer tells how d (restore_fault_answer (checked_restore g))
+put_fault tells how d f g e count again same is other =
+    subst (λ (h : CheckFault). IsPutBackAnswer tells how d (restore_fault_answer (checked_restore h))) e (by f count is (λ m x. other m (sym e ∙ x)))
+  where
+    first_said : (h : CheckFault) → (tells → IsCheckRefusal d.source Elsewhere h) → tells → IsAnsweredRestore d.source d.old how.payload (over_of how) (checked_restore h)
+    first_said h said told = answered_refusal d.source d.old how.payload (over_of how) h (said told)
+
+    by : (h : CheckFault) → d.source_after ≡ count_after (is_check_failure h) d.source_before → (tells → IsCheckRefusal d.source Elsewhere h)
+        → ((m : MetaFault) → h ≡ check.Meta m → ⊥) → IsPutBackAnswer tells how d (restore_fault_answer (checked_restore h))
+    by (check.Head h) counted said own = inl (((counted, again), same, first_said (check.Head h) said), λ told u. checked_other d.source (check.Head h) (said told) own u)
+    by (check.Meta h) counted said own = inl (((counted, again), same, first_said (check.Meta h) said), λ told u. checked_other d.source (check.Meta h) (said told) own u)
+    by (check.Area h) counted said own = inl (((counted, again), same, first_said (check.Area h) said), λ told u. checked_other d.source (check.Area h) (said told) own u)
+    by check.Device counted said own = inl (inl (counted, again), λ told u. tt)
+    by check.Memory counted said own = inl (((counted, again), same, first_said check.Memory said), λ told u. tt)
+
+-- the same of a fault of the metadata, where nothing is under way
+pub put_narrow : (tells : Type 0) (how : Restoring) (d : Pair) (f : MetaFault) → NoneFailed d → (tells → d.new ≡ d.old) → (tells → First d.source Elsewhere (check.Meta f))
+    → (tells → IsUnderWayVolume d.source → ⊥) → IsPutBackAnswer tells how d (restore_fault_answer (checked_restore (check.Meta f)))
+put_narrow tells how d f none same is other =
+    inl ((none, same, λ told. answered_refusal d.source d.old how.payload (over_of how) (check.Meta f) (is told)), λ told u. absurd (other told u))
+
+-- ---- another use of the disk bars it
+
+pub barred_underway : (tells : Type 0) (how : Restoring) (d : Pair) (x : Bar) → CountsAfter (is_bar_failure x) d.source_before d.source_after d.before d.after
+    → (tells → d.new ≡ d.old) → IsUnderwayUseBar tells how.over d.source d.old x → IsUnderwayPutBack tells how d (bar_answer x)
+barred_underway tells how d (bar.OtherUse found) count same is = (count, same, is.0, is.1)
+barred_underway tells how d bar.OtherVolume count same is = absurd is
+barred_underway tells how d bar.Reencrypting count same is = absurd is
+barred_underway tells how d bar.Memory count same is = absurd is
+barred_underway tells how d bar.Device count same is = count
