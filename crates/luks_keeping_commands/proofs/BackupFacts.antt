@@ -1,10 +1,12 @@
 -- What `backup` leaves and answers, by what it met.
-use Rattle.std.proofs.Common.{◌≡◌, List, ℕ, Bool, Result, Ok, Err, OnOk, IfErr, true, false, inl, inr, refl, sym, ap, subst, ◌∙◌, arith}
+use Rattle.std.proofs.Common.{◌≡◌, ◌+◌, List, ℕ, Bool, Result, Ok, Err, OnOk, IfErr, true, false, inl, inr, refl, sym, ap, subst, ◌∙◌, arith}
 use Rattle.std.proofs.lemmas.Bool.{true≢false}
-use Rattle.luks_area.specs.Device.{IsSettled, IsUnchanged}
+use Rattle.luks_area.specs.Device.{count_after, IsSettled, IsUnchanged}
 use Rattle.luks_area.proofs.DeviceFacts.{settled_unchanged}
 use Rattle.luks2_header.specs.Selection.{Choice, Chosen}
 use Rattle.luks_writing.specs.TwoDevices.{CountsAfter}
+use Rattle.luks_reading.specs.Checked.{WellFormed}
+use Rattle.luks_reading.specs.Header.{NeedsMetadata}
 use Rattle.luks_reading.specs.declared.report.Data.{Data}
 use Rattle.luks_rules.specs.declared.fault.MetaFault.{MetaFault}
 use Rattle.luks_reading.specs.declared.check_fault.CheckFault.{CheckFault}
@@ -33,7 +35,7 @@ use Rattle.luks_commands.specs.declared.inputs.InputFault.TheVariants.{Absent, U
 use Rattle.luks_commands.specs.declared.inputs.Reason.{Reason}
 use Rattle.luks_commands.specs.declared.inputs.Reason.TheVariants as reason
 use Rattle.luks_commands.specs.Answer.{backup_fault_answer, unread_answer}
-use Rattle.luks_keeping_commands.specs.BackingUp.{AnswersBackup, IsBackupAnswer, IsMadeAnswer, IsNewBackup, IsNewUnderway, IsRescueAnswer, IsUnderwayMade, IsUnderwayUnkept, IsUnmadeAnswer, IsWithoutFile, KeepsRest}
+use Rattle.luks_keeping_commands.specs.BackingUp.{AnswersBackup, IsBackupAnswer, IsMadeAnswer, IsNewBackup, IsNewUnderway, IsNotKept, IsRescueAnswer, IsUnderwayMade, IsUnderwayUnkept, IsUnderwayWithoutFile, IsUnmadeAnswer, IsWithoutFile, KeepsRest}
 use Rattle.luks_keeping_commands.specs.TwoFiles.{NoneFailed, Pair}
 
 -- a file that no call was made on has kept its rest
@@ -167,6 +169,79 @@ pub unkept_fault : (tells : Type 0) (v : List ℕ) (n : ℕ) (f : BackupFault) �
 unkept_fault tells v n Device own some is = absurd (true≢false own)
 unkept_fault tells v n Memory own some is = absurd (some refl)
 unkept_fault tells v n f own some is = (refl, is)
+
+-- ---- where there is no file
+
+pub unkept_narrow : (tells : Type 0) (payload : Data) (v : List ℕ) (s u : ℕ) (f : BackupFault) → u ≡ count_after (is_backup_failure f) s
+    → (tells → IsAnsweredBackup v payload 18446744073709551615 f) → IsNotKept tells payload v s u (backup_fault_answer f)
+unkept_narrow tells payload v s u Device count is = count
+unkept_narrow tells payload v s u Memory count is = (count, is)
+unkept_narrow tells payload v s u f count is = (count, is)
+
+-- with `--rescue` or without it
+pub unmade_by : (rescue : Bool) (tells : Type 0) (payload : Data) (v : List ℕ) (s u : ℕ) (missed : InputFault) (a : Answer) → IsWithoutFile tells payload v s u missed a
+    → (tells → IsUnderWayVolume v → IsLost a) → IsUnmadeAnswer rescue tells payload v s u missed a
+unmade_by true tells payload v s u missed a said own = said
+unmade_by false tells payload v s u missed a said own = inl (said, own)
+
+pub unmade_fault : (rescue : Bool) (tells : Type 0) (payload : Data) (v : List ℕ) (s u : ℕ) (missed : InputFault) (f g : BackupFault) → f ≡ g
+    → u ≡ count_after (is_backup_failure f) s → (tells → IsAnsweredBackup v payload 18446744073709551615 f) → ((m : MetaFault) → g ≡ NotAccepted (check.Meta m) → ⊥)
+    → IsUnmadeAnswer rescue tells payload v s u missed (backup_fault_answer g)
+unmade_fault rescue tells payload v s u missed f g e count is other =
+    subst (λ (h : BackupFault). IsUnmadeAnswer rescue tells payload v s u missed (backup_fault_answer h)) e
+    (unmade_by rescue tells payload v s u missed (backup_fault_answer f) (inl (unkept_narrow tells payload v s u f count is))
+    (λ told under. fault_other v payload 18446744073709551615 f (is told) (λ m x. other m (sym e ∙ x)) under))
+
+-- and where `check` refused the volume before
+pub unmade_refused : (tells : Type 0) (payload : Data) (v : List ℕ) (n k : ℕ) (missed : InputFault) (f : CheckFault) → k ≡ n
+    → (tells → IsAnsweredBackup v payload 18446744073709551615 (NotAccepted f)) → (tells → IsUnderWayVolume v → ⊥)
+    → IsUnmadeAnswer false tells payload v n k missed (backup_fault_answer (NotAccepted f))
+unmade_refused tells payload v n k missed f same is other = inl (inl (same, is), λ told u. absurd (other told u))
+
+-- after a call that changed nothing
+module _ (tells : Type 0) (payload : Data) (missed : InputFault) (v w : List ℕ) (s t u : ℕ) (same : tells → w ≡ v) (again : t ≡ s) where
+  moved : (P : List ℕ → Type 0) → (tells → P w) → tells → P v
+  moved P x told = subst P (same told) (x told)
+
+  kept_refused : (f : BackupFault) → IsNotKept tells payload w t u (Refused (Backup f)) → IsNotKept tells payload v s u (Refused (Backup f))
+  kept_refused (NotAccepted g) x = (x.0 ∙ again, moved (λ l. IsAnsweredBackup l payload 18446744073709551615 (NotAccepted g)) x.1)
+  kept_refused TooSmall x = (x.0 ∙ again, moved (λ l. IsAnsweredBackup l payload 18446744073709551615 TooSmall) x.1)
+  kept_refused Memory x = x
+  kept_refused Device x = x
+
+  kept_after : (a : Answer) → IsNotKept tells payload w t u a → IsNotKept tells payload v s u a
+  kept_after (Refused (Backup f)) x = kept_refused f x
+  kept_after DeviceFault x = subst (λ (n : ℕ). u ≡ n + 1) again x
+  kept_after OutOfMemory x = (x.0 ∙ again, moved NeedsMetadata x.1)
+  kept_after a x = absurd x
+
+  narrow_after : (a : Answer) → IsWithoutFile tells payload w t u missed a → IsWithoutFile tells payload v s u missed a
+  narrow_after a (inl x) = inl (kept_after a x)
+  narrow_after a (inr x) = inr (x.0 ∙ again, moved (λ l. WellFormed l payload) x.1, x.2)
+
+  unkept_refused : (f : BackupFault) → IsUnderwayUnkept tells w t u (Refused (Backup f)) → IsUnderwayUnkept tells v s u (Refused (Backup f))
+  unkept_refused (NotAccepted g) x = (x.0 ∙ again, moved (λ l. IsUnderwayUnmade l 18446744073709551615 (NotAccepted g)) x.1)
+  unkept_refused TooSmall x = (x.0 ∙ again, moved (λ l. IsUnderwayUnmade l 18446744073709551615 TooSmall) x.1)
+  unkept_refused Memory x = x
+  unkept_refused Device x = x
+
+  unkept_barred : (r : UnderwayRefusal) → IsUnderwayUnkept tells w t u (Refused (Underway r)) → IsUnderwayUnkept tells v s u (Refused (Underway r))
+  unkept_barred (Metadata f) x = (x.0 ∙ again, moved (λ l. IsMetadataRefused l f) x.1)
+  unkept_barred NoKey x = absurd x
+  unkept_barred Progressed x = absurd x
+
+  unkept_after : (a : Answer) → IsUnderwayUnkept tells w t u a → IsUnderwayUnkept tells v s u a
+  unkept_after (Refused (Backup f)) x = unkept_refused f x
+  unkept_after (Refused (Underway r)) x = unkept_barred r x
+  unkept_after a x = absurd x
+
+  wide_after : (a : Answer) → IsUnderwayWithoutFile tells w t u missed a → IsUnderwayWithoutFile tells v s u missed a
+  wide_after a (inl x) = inl (unkept_after a x)
+  wide_after a (inr x) = inr (x.0 ∙ again, moved (λ l. CanBackUpUnderway l 18446744073709551615) x.1, x.2)
+
+  pub unmade_file_after : (a : Answer) → IsUnmadeAnswer false tells payload w t u missed a → IsUnmadeAnswer false tells payload v s u missed a
+  unmade_file_after a (inl x) = inl (narrow_after a x.0, moved (λ l. IsUnderWayVolume l → IsLost a) x.1)
+  unmade_file_after a (inr x) = inr (wide_after a x)
 
 -- ---- with `--rescue`
 
