@@ -1,5 +1,5 @@
 -- What `open` answers of a volume in whose metadata something is under way.
-use Rattle.std.proofs.Common.{◌≡◌, ◌∙◌, ℕ, ◌+◌, ◌⊎◌, List, length, true, Option, Some, None, Result, Ok, Err, IfOk, IfErr, inl, inr, refl, subst, sym}
+use Rattle.std.proofs.Common.{◌≡◌, ℕ, ◌⊎◌, List, length, true, Option, Some, None, Ok, Err, inl, inr, refl, subst, sym}
 use Rattle.luks_area.specs.Device.{count_after}
 use Rattle.luks_slot.specs.declared.allowed.Allowed.{Allowed}
 use Rattle.luks_reading.specs.declared.header.Header.{Header}
@@ -22,16 +22,17 @@ use Rattle.luks_wide_reading.specs.declared.read_fault.WideReadFault.TheVariants
 use Rattle.luks_wide_reading.specs.Faults.{is_wide_open_failure, is_wide_own, is_wide_read_failure}
 use Rattle.luks_wide_reading.specs.Headers.{IsFromOutside, IsUnderwayCopy, IsUnderWayVolume, IsWideUnread}
 use Rattle.luks_wide_reading.specs.Opening.{IsUnderwayOpening, UnderwayOpens, UnderwayRefused, UnderwayTakesMemory}
-use Rattle.luks_wide_reading.specs.Trying.{underway_order, IsUnderwayUnlocking, UnderwayTries}
+use Rattle.luks_wide_reading.specs.Trying.{underway_order, IsUnderwayUnlocking}
 use Rattle.luks_wide_reading.specs.Volume.{UnderwayGives, UnderwayRefuses, UnderwayUnlocks}
 use Rattle.luks_wide_reading.proofs.VolumeFacts.{counts_underway}
 use Rattle.luks_commands.specs.Answer.{open_fault_answer}
 use Rattle.luks_commands.specs.Lost.{IsLost}
+use Rattle.luks_commands.specs.UnderwayAnswers.{IsMetadataRefused}
 use Rattle.luks_commands.specs.declared.answers.Answer.{Answer}
 use Rattle.luks_commands.specs.declared.answers.Answer.TheVariants.{Opens, Closed, NoneOpens, Refused, DeviceFault, NoMemory}
 use Rattle.luks_commands.specs.declared.answers.Refusal.TheVariants.{Open, Underway}
 use Rattle.luks_commands.specs.declared.underway_refusal.UnderwayRefusal.TheVariants.{Metadata, NoKey}
-use Rattle.luks_commands.specs.OpenAnswers.{wide_open_answer, wide_read_answer, FailsBeside, IsAnyUnderway, IsMetadataRefused, IsOneUnderway, IsOpenAnswer, IsTried, IsTriedUnderway, IsUnderwayAnswer, IsWideAnswer, TakesMemoryUnderway}
+use Rattle.luks_commands.specs.OpenAnswers.{wide_open_answer, wide_read_answer, IsAnyUnderway, IsOneUnderway, IsOpenAnswer, IsTried, IsTriedUnderway, IsUnderwayAnswer, IsWideAnswer, TakesMemoryUnderway}
 use Rattle.luks_commands.proofs.NotUnderway.{read_narrow, unread_narrow}
 use Rattle.luks_commands.proofs.OpenFacts.{answers_narrow, answers_unread}
 

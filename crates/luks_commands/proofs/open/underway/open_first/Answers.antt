@@ -15,11 +15,11 @@ returns-in-Ok-Some-clause-answers g c =
     let key = c.in-Ok-Some.field-0-0-1 in (
       subst (λ m. FailsBeside m (g.D.Device.failed c.note_keys.new.device)) c.in-Ok-Some.ensures.count c.note_keys.ensures.beside,
       λ t. (
-          key,
-          unlocks_underway g.D.Device.tells size v trial.copy.now trial.allowed trial.passphrase.now (Some (c.in-Ok-Some.n, key)) t.0 t.1
-          (λ json holds. subst (λ (o : Option (ℕ × List ℕ)). IsUnderwayUnlocking g.D.Device.tells size v json trial.allowed trial.passphrase.now order (Ok o)) c.in-Ok-Some.field-0-is
-          (c.in-Ok-Some.ensures.answers json holds)),
-        ),
+        key,
+        unlocks_underway g.D.Device.tells size v trial.copy.now trial.allowed trial.passphrase.now (Some (c.in-Ok-Some.n, key)) t.0 t.1
+            (λ json holds. subst (λ (o : Option (ℕ × List ℕ)). IsUnderwayUnlocking g.D.Device.tells size v json trial.allowed trial.passphrase.now order (Ok o)) c.in-Ok-Some.field-0-is
+            (c.in-Ok-Some.ensures.answers json holds)),
+      ),
     )
 
 pub returns-in-Ok-None-clause-answers : goal.returns-in-Ok-None-clause-answers
