@@ -97,12 +97,16 @@ unread_other v reading.Memory x no_device no_memory u = no_memory refl
 
 module _ (tells : Type 0) (payload : Data) (first then : Pair) (x : IsBefore tells first then) where
   refused_after : (f : BackupFault) → IsBackupAnswer tells payload then (Refused (Backup f)) → IsBackupAnswer tells payload first (Refused (Backup f))
-  refused_after (NotAccepted g) y =
-      (none_after tells first then x y.0, same_after tells first then x y.1,
-       λ told. subst (λ (n : ℕ). IsAnsweredBackup first.source payload n (NotAccepted g)) x.total (lifted tells first then x (λ k l. IsAnsweredBackup k payload then.total (NotAccepted g)) y.2 told))
-  refused_after TooSmall y =
-      (none_after tells first then x y.0, same_after tells first then x y.1,
-       λ told. subst (λ (n : ℕ). IsAnsweredBackup first.source payload n TooSmall) x.total (lifted tells first then x (λ k l. IsAnsweredBackup k payload then.total TooSmall) y.2 told))
+  refused_after (NotAccepted g) y = (
+    none_after tells first then x y.0,
+    same_after tells first then x y.1,
+    λ told. subst (λ (n : ℕ). IsAnsweredBackup first.source payload n (NotAccepted g)) x.total (lifted tells first then x (λ k l. IsAnsweredBackup k payload then.total (NotAccepted g)) y.2 told),
+  )
+  refused_after TooSmall y = (
+    none_after tells first then x y.0,
+    same_after tells first then x y.1,
+    λ told. subst (λ (n : ℕ). IsAnsweredBackup first.source payload n TooSmall) x.total (lifted tells first then x (λ k l. IsAnsweredBackup k payload then.total TooSmall) y.2 told),
+  )
   refused_after Memory y = y
   refused_after Device y = y
 
@@ -124,12 +128,16 @@ module _ (tells : Type 0) (payload : Data) (first then : Pair) (x : IsBefore tel
 
 module _ (tells : Type 0) (first then : Pair) (x : IsBefore tells first then) where
   unmade_after : (f : BackupFault) → IsUnderwayMade tells then (Refused (Backup f)) → IsUnderwayMade tells first (Refused (Backup f))
-  unmade_after (NotAccepted g) y =
-      (none_after tells first then x y.0, same_after tells first then x y.1,
-       λ told. subst (λ (n : ℕ). IsUnderwayUnmade first.source n (NotAccepted g)) x.total (lifted tells first then x (λ k l. IsUnderwayUnmade k then.total (NotAccepted g)) y.2 told))
-  unmade_after TooSmall y =
-      (none_after tells first then x y.0, same_after tells first then x y.1,
-       λ told. subst (λ (n : ℕ). IsUnderwayUnmade first.source n TooSmall) x.total (lifted tells first then x (λ k l. IsUnderwayUnmade k then.total TooSmall) y.2 told))
+  unmade_after (NotAccepted g) y = (
+    none_after tells first then x y.0,
+    same_after tells first then x y.1,
+    λ told. subst (λ (n : ℕ). IsUnderwayUnmade first.source n (NotAccepted g)) x.total (lifted tells first then x (λ k l. IsUnderwayUnmade k then.total (NotAccepted g)) y.2 told),
+  )
+  unmade_after TooSmall y = (
+    none_after tells first then x y.0,
+    same_after tells first then x y.1,
+    λ told. subst (λ (n : ℕ). IsUnderwayUnmade first.source n TooSmall) x.total (lifted tells first then x (λ k l. IsUnderwayUnmade k then.total TooSmall) y.2 told),
+  )
   unmade_after Memory y = y
   unmade_after Device y = y
 

@@ -145,9 +145,11 @@ module _ (tells : Type 0) (payload : Data) (over : Over) (first then : Pair) (x 
 module _ (tells : Type 0) (how : Restoring) (first then : Pair) (x : IsBefore tells first then) where
   unrestored_after : (f : UnderwayRestoreFault) → (NoneFailed then × (tells → then.new ≡ then.old) × (tells → IsUnderwayUnrestored then.source then.old how.payload (over_underway how) f))
       → NoneFailed first × (tells → first.new ≡ first.old) × (tells → IsUnderwayUnrestored first.source first.old how.payload (over_underway how) f)
-  unrestored_after f y =
-      (none_after tells first then x y.0, same_after tells first then x y.1,
-       lifted tells first then x (λ k l. IsUnderwayUnrestored k l how.payload (over_underway how) f) y.2)
+  unrestored_after f y = (
+    none_after tells first then x y.0,
+    same_after tells first then x y.1,
+    lifted tells first then x (λ k l. IsUnderwayUnrestored k l how.payload (over_underway how) f) y.2,
+  )
 
   underway_refused : (f : RestoreFault) → IsUnderwayPutBack tells how then (Refused (Restore f)) → IsUnderwayPutBack tells how first (Refused (Restore f))
   underway_refused (NotAccepted g) y = unrestored_after (underway.Restore (NotAccepted g)) y

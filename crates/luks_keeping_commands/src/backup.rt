@@ -14,10 +14,10 @@ ghost use Rattle.luks_wide_reading.specs.Headers.{IsUnderwayCopy};
 ghost use Rattle.luks_keeping_commands.specs.BackingUp.{AnswersBackup, IsMadeAnswer, IsRescueAnswer, IsUnderwayMade, IsUnmadeAnswer, KeepsRest};
 ghost use Rattle.luks_keeping_commands.specs.TwoFiles.{pair_of};
 
+use crate::underway::{note_moment, underway_answer};
 use luks_commands::{
     Answer, InputFault, Inputs, Reason, Refusal, Status, are_one_file, device_fault, unread,
 };
-use crate::underway::{note_moment, underway_answer};
 use luks_keeping::{BackupFault, backup, backup_length, rescue};
 use luks_reading::{CheckFault, Data, Device, MetaFault, ReadFault};
 use luks_request::BackingUp;

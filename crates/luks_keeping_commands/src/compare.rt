@@ -221,9 +221,7 @@ fn compare_moments<D: Device>(
 {
     match standing_of(backup, volume)? {
         Standing::Same => Ok(Answer::Compared(compare_underway(backup, copy, volume)?)),
-        Standing::Progressed => Ok(Answer::Refused(Refusal::Underway(
-            UnderwayRefusal::Progressed,
-        ))),
+        Standing::Progressed => Ok(Answer::Refused(Refusal::Underway(UnderwayRefusal::Progressed))),
         Standing::Another | Standing::Nothing => Ok(Answer::Refused(Refusal::Restore(
             RestoreFault::OtherVolume,
         ))),

@@ -21,9 +21,10 @@ returns-in-Ok-clause-answers g c =
 
 pub returns-in-Err-Underway-clause-answers : goal.returns-in-Err-Underway-clause-answers
 returns-in-Err-Underway-clause-answers g c =
-    subst (IsUnderwayCompared g.D.Device.tells _) (sym c.underway_answer.ensures)
-    ((refl, c.in-Err-Underway.ensures.count ∙ ap (λ f. count_after (is_wide_read_failure f) (g.D.Device.failed c.args.volume.now)) c.in-Err-Underway.field-0-is),
-    λ told. inr (_, subst (IsWideUnread (g.D.Device.bytes c.args.volume.now)) c.in-Err-Underway.field-0-is (c.in-Err-Underway.ensures.refused told)))
+    subst (IsUnderwayCompared g.D.Device.tells _) (sym c.underway_answer.ensures) (
+      (refl, c.in-Err-Underway.ensures.count ∙ ap (λ f. count_after (is_wide_read_failure f) (g.D.Device.failed c.args.volume.now)) c.in-Err-Underway.field-0-is),
+      λ told. inr (_, subst (IsWideUnread (g.D.Device.bytes c.args.volume.now)) c.in-Err-Underway.field-0-is (c.in-Err-Underway.ensures.refused told)),
+    )
 
 pub returns-in-Err-Read-clause-answers : goal.returns-in-Err-Read-clause-answers
 returns-in-Err-Read-clause-answers g c =

@@ -9,11 +9,11 @@ use Rattle.luks_keeping_commands.proofs.compare.compare_wide.Goals as goal
 
 pub returns-in-Ok-Underway-clause-answers : goal.returns-in-Ok-Underway-clause-answers
 returns-in-Ok-Underway-clause-answers g c = inr (
-  underway_after g.D.Device.tells _ _
-      (after_source g.D.Device.tells g.D.Device.size g.D.Device.bytes g.D.Device.failed c.args.backup.now c.read_wide_header.new.device c.compare_copy.new.backup
-      c.args.volume.now c.compare_copy.new.volume c.in-Ok-Underway.ensures.unchanged.same c.in-Ok-Underway.ensures.count)
-      _ c.compare_copy.ensures.answers,
-)
+    underway_after g.D.Device.tells _ _
+    (after_source g.D.Device.tells g.D.Device.size g.D.Device.bytes g.D.Device.failed c.args.backup.now c.read_wide_header.new.device c.compare_copy.new.backup
+    c.args.volume.now c.compare_copy.new.volume c.in-Ok-Underway.ensures.unchanged.same c.in-Ok-Underway.ensures.count)
+    _ c.compare_copy.ensures.answers
+    )
 
 pub returns-in-Ok-Narrow-clause-answers : goal.returns-in-Ok-Narrow-clause-answers
 returns-in-Ok-Narrow-clause-answers g c =

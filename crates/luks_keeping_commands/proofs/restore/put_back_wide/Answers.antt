@@ -18,11 +18,11 @@ returns-in-Ok-Underway-clause-rest g c = λ told.
 
 pub returns-in-Ok-Underway-clause-answers : goal.returns-in-Ok-Underway-clause-answers
 returns-in-Ok-Underway-clause-answers g c = inr (
-  underway_after g.D.Device.tells c.args.restoring.now _ _
-      (after_source g.D.Device.tells g.D.Device.size g.D.Device.bytes g.D.Device.failed c.args.backup.now c.read_wide_header.new.device c.put_unless_used.new.backup
-      c.args.volume.now c.put_unless_used.new.volume c.in-Ok-Underway.ensures.unchanged.same c.in-Ok-Underway.ensures.count)
-      _ c.put_unless_used.ensures.answers,
-)
+    underway_after g.D.Device.tells c.args.restoring.now _ _
+    (after_source g.D.Device.tells g.D.Device.size g.D.Device.bytes g.D.Device.failed c.args.backup.now c.read_wide_header.new.device c.put_unless_used.new.backup
+    c.args.volume.now c.put_unless_used.new.volume c.in-Ok-Underway.ensures.unchanged.same c.in-Ok-Underway.ensures.count)
+    _ c.put_unless_used.ensures.answers
+    )
 
 pub returns-in-Ok-Narrow-clause-answers : goal.returns-in-Ok-Narrow-clause-answers
 returns-in-Ok-Narrow-clause-answers g c =
