@@ -426,12 +426,12 @@ pub(crate) fn next(fault: Fault) -> &'static str {
         Fault::Kind => {
             "luks show lists it where it is a reencryption that broke off, luks open
        tells which key each keyslot gives, and luks show --tables how the data
-       is read: restore no header backup then. Copy the first 32 MiB, then
-       cryptsetup repair and cryptsetup reencrypt --resume-only; but not where
-       luks show has one segment in use, like that of backup-final and without
-       in-reencryption, and your old keyslots unbound or gone: all is done then,
-       and it would begin anew. Else where cryptsetup opens the volume it is
-       right to"
+       is read: restore no header backup from before. Copy its header by luks
+       backup, then cryptsetup repair and cryptsetup reencrypt --resume-only;
+       but not where luks show has one segment in use, like that of backup-final
+       and without in-reencryption, and your old keyslots unbound or gone: all
+       is done then, and it would begin anew. Else where cryptsetup opens the
+       volume it is right to"
         }
         Fault::Region => {
             "Region(Segment(0)) is mostly a detached header: give --detached; else

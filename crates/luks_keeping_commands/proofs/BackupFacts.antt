@@ -1,21 +1,38 @@
 -- What `backup` leaves and answers, by what it met.
-use Rattle.std.proofs.Common.{◌≡◌, List, ℕ, Bool, Result, Ok, Err, OnOk, IfErr, true, false, inl, inr, refl, ap, arith}
+use Rattle.std.proofs.Common.{◌≡◌, List, ℕ, Bool, Result, Ok, Err, OnOk, IfErr, true, false, inl, inr, refl, ap, subst, arith}
+use Rattle.std.proofs.lemmas.Bool.{true≢false}
 use Rattle.luks_area.specs.Device.{IsSettled, IsUnchanged}
 use Rattle.luks_area.proofs.DeviceFacts.{settled_unchanged}
 use Rattle.luks2_header.specs.Selection.{Choice, Chosen}
 use Rattle.luks_writing.specs.TwoDevices.{CountsAfter}
 use Rattle.luks_reading.specs.declared.report.Data.{Data}
-use Rattle.luks_keeping.specs.BackupFaults.{is_backup_failure, IsAnsweredBackup}
+use Rattle.luks_rules.specs.declared.fault.MetaFault.{MetaFault}
+use Rattle.luks_reading.specs.declared.check_fault.CheckFault.TheVariants as check
+use Rattle.luks_reading.specs.declared.read_fault.ReadFault.{ReadFault}
+use Rattle.luks_reading.specs.declared.read_fault.ReadFault.TheVariants as reading
+use Rattle.luks_keeping.specs.BackupFaults.{is_backup_failure, CanBackUp, IsAnsweredBackup}
 use Rattle.luks_keeping.specs.Rescued.{CountsRescue, EndsAfter, EndsBySource}
 use Rattle.luks_keeping.specs.declared.backup_fault.BackupFault.{BackupFault}
-use Rattle.luks_keeping.specs.declared.backup_fault.BackupFault.TheVariants.{Memory, Device}
+use Rattle.luks_keeping.specs.declared.backup_fault.BackupFault.TheVariants.{NotAccepted, TooSmall, Memory, Device}
+use Rattle.luks_wide_reading.specs.Headers.{IsUnderWayVolume, IsWideUnread}
+use Rattle.luks_wide_reading.specs.declared.read_fault.WideReadFault.TheVariants as unread
+use Rattle.luks_wide_keeping.specs.Backup.{CanBackUpUnderway, IsUnderwayUnmade}
+use Rattle.luks_commands.specs.Lost.{IsLost}
+use Rattle.luks_commands.specs.UnderwayAnswers.{IsMetadataRefused}
+use Rattle.luks_commands.proofs.NotUnderway.{unread_narrow}
 use Rattle.luks_commands.specs.declared.answers.Answer.{Answer}
+use Rattle.luks_commands.specs.declared.answers.Answer.TheVariants.{Done, Refused, DeviceFault, NoMemory as OutOfMemory}
+use Rattle.luks_commands.specs.declared.answers.Refusal.TheVariants.{Backup, Underway}
+use Rattle.luks_commands.specs.declared.underway_refusal.UnderwayRefusal.{UnderwayRefusal}
+use Rattle.luks_commands.specs.declared.underway_refusal.UnderwayRefusal.TheVariants.{Metadata, NoKey, Progressed}
+use Rattle.luks_keeping_commands.proofs.Lifted.{lifted, lifted_new, none_after, one_after, same_after, IsBefore}
+use Rattle.luks_keeping_commands.proofs.NarrowFacts.{first_other, no_meta_fault}
 use Rattle.luks_commands.specs.declared.inputs.InputFault.{InputFault}
 use Rattle.luks_commands.specs.declared.inputs.InputFault.TheVariants.{Absent, Unreadable, NoMemory}
 use Rattle.luks_commands.specs.declared.inputs.Reason.{Reason}
 use Rattle.luks_commands.specs.declared.inputs.Reason.TheVariants as reason
 use Rattle.luks_commands.specs.Answer.{backup_fault_answer, unread_answer}
-use Rattle.luks_keeping_commands.specs.BackingUp.{AnswersBackup, IsBackupAnswer, IsRescueAnswer, IsWithoutFile, KeepsRest}
+use Rattle.luks_keeping_commands.specs.BackingUp.{AnswersBackup, IsBackupAnswer, IsMadeAnswer, IsNewBackup, IsNewUnderway, IsRescueAnswer, IsUnderwayMade, IsUnderwayUnkept, IsUnmadeAnswer, IsWithoutFile, KeepsRest}
 use Rattle.luks_keeping_commands.specs.TwoFiles.{Pair}
 
 -- a file that no call was made on has kept its rest
@@ -30,6 +47,106 @@ pub answers_fault : (tells : Type 0) (payload : Data) (d : Pair) (f : BackupFaul
 answers_fault tells payload d Device count same is = count
 answers_fault tells payload d Memory count same is = (count, same refl, is)
 answers_fault tells payload d f count same is = (count, same refl, is)
+
+-- ---- where something may be under way
+
+-- what is answered of a fault that isn't one of the metadata isn't of a volume in whose metadata something is under way
+pub fault_other : (v : List ℕ) (payload : Data) (total : ℕ) (f : BackupFault) → IsAnsweredBackup v payload total f → ((g : MetaFault) → f ≡ NotAccepted (check.Meta g) → ⊥)
+    → IsUnderWayVolume v → IsLost (backup_fault_answer f)
+fault_other v payload total (NotAccepted f) x other u =
+    absurd (first_other v payload f (x.0, λ g bad. (x.1 (NotAccepted g) bad).1 refl) (λ g e. other g (ap NotAccepted e)) u)
+fault_other v payload total TooSmall x other u =
+    absurd (no_meta_fault v payload (λ g bad. (let later = (x.1 (NotAccepted (check.Meta g)) bad).0 in omega (arith, later))) u)
+fault_other v payload total Memory x other u = tt
+fault_other v payload total Device x other u = tt
+
+-- a backup that was made is none of such a volume
+pub done_other : (v : List ℕ) (payload : Data) (total : ℕ) → CanBackUp v payload total → IsUnderWayVolume v → ⊥
+done_other v payload total can u = no_meta_fault v payload (λ g bad. can.none (NotAccepted (check.Meta g)) bad) u
+
+-- what isn't read by the wider reading has nothing under way
+pub unread_other : (v : List ℕ) (f : ReadFault) → IsWideUnread v (unread.Read f) → (f ≡ reading.Device → ⊥) → (f ≡ reading.Memory → ⊥) → IsUnderWayVolume v → ⊥
+unread_other v (reading.Head f) x no_device no_memory u = unread_narrow v (reading.Head f) x u
+unread_other v (reading.Meta f) x no_device no_memory u = unread_narrow v (reading.Meta f) x u
+unread_other v reading.Device x no_device no_memory u = no_device refl
+unread_other v reading.Memory x no_device no_memory u = no_memory refl
+
+-- ---- after calls that changed nothing
+
+module _ (tells : Type 0) (payload : Data) (first then : Pair) (x : IsBefore tells first then) where
+  refused_after : (f : BackupFault) → IsBackupAnswer tells payload then (Refused (Backup f)) → IsBackupAnswer tells payload first (Refused (Backup f))
+  refused_after (NotAccepted g) y =
+      (none_after tells first then x y.0, same_after tells first then x y.1,
+       λ told. subst (λ (n : ℕ). IsAnsweredBackup first.source payload n (NotAccepted g)) x.total (lifted tells first then x (λ k l. IsAnsweredBackup k payload then.total (NotAccepted g)) y.2 told))
+  refused_after TooSmall y =
+      (none_after tells first then x y.0, same_after tells first then x y.1,
+       λ told. subst (λ (n : ℕ). IsAnsweredBackup first.source payload n TooSmall) x.total (lifted tells first then x (λ k l. IsAnsweredBackup k payload then.total TooSmall) y.2 told))
+  refused_after Memory y = y
+  refused_after Device y = y
+
+  pub backup_after : (a : Answer) → IsBackupAnswer tells payload then a → IsBackupAnswer tells payload first a
+  backup_after (Done slot) y = (
+    none_after tells first then x y.0,
+    y.1,
+    λ told. subst (λ (n : ℕ). CanBackUp first.source payload n) x.total (lifted tells first then x (λ k l. CanBackUp k payload then.total) y.2 told),
+    lifted_new tells first then x (λ k l m. IsNewBackup k payload l m) y.3,
+  )
+  backup_after (Refused (Backup f)) y = refused_after f y
+  backup_after DeviceFault y = one_after tells first then x y
+  backup_after OutOfMemory y = (
+    none_after tells first then x y.0,
+    same_after tells first then x y.1,
+    λ told. subst (λ (n : ℕ). IsAnsweredBackup first.source payload n Memory) x.total (lifted tells first then x (λ k l. IsAnsweredBackup k payload then.total Memory) y.2 told),
+  )
+  backup_after a y = absurd y
+
+module _ (tells : Type 0) (first then : Pair) (x : IsBefore tells first then) where
+  unmade_after : (f : BackupFault) → IsUnderwayMade tells then (Refused (Backup f)) → IsUnderwayMade tells first (Refused (Backup f))
+  unmade_after (NotAccepted g) y =
+      (none_after tells first then x y.0, same_after tells first then x y.1,
+       λ told. subst (λ (n : ℕ). IsUnderwayUnmade first.source n (NotAccepted g)) x.total (lifted tells first then x (λ k l. IsUnderwayUnmade k then.total (NotAccepted g)) y.2 told))
+  unmade_after TooSmall y =
+      (none_after tells first then x y.0, same_after tells first then x y.1,
+       λ told. subst (λ (n : ℕ). IsUnderwayUnmade first.source n TooSmall) x.total (lifted tells first then x (λ k l. IsUnderwayUnmade k then.total TooSmall) y.2 told))
+  unmade_after Memory y = y
+  unmade_after Device y = y
+
+  underway_refused : (r : UnderwayRefusal) → IsUnderwayMade tells then (Refused (Underway r)) → IsUnderwayMade tells first (Refused (Underway r))
+  underway_refused (Metadata f) y = (none_after tells first then x y.0, same_after tells first then x y.1, lifted tells first then x (λ k l. IsMetadataRefused k f) y.2)
+  underway_refused NoKey y = absurd y
+  underway_refused Progressed y = absurd y
+
+  pub underway_after : (a : Answer) → IsUnderwayMade tells then a → IsUnderwayMade tells first a
+  underway_after (Done slot) y = (
+    none_after tells first then x y.0,
+    y.1,
+    λ told. subst (λ (n : ℕ). CanBackUpUnderway first.source n) x.total (lifted tells first then x (λ k l. CanBackUpUnderway k then.total) y.2 told),
+    lifted_new tells first then x (λ k l m. IsNewUnderway k l m) y.3,
+  )
+  underway_after (Refused (Backup f)) y = unmade_after f y
+  underway_after (Refused (Underway r)) y = underway_refused r y
+  underway_after DeviceFault y = one_after tells first then x y
+  underway_after a y = absurd y
+
+-- so of any volume
+pub made_after : (tells : Type 0) (payload : Data) (first then : Pair) → IsBefore tells first then → (a : Answer) → IsMadeAnswer false tells payload then a → IsMadeAnswer false tells payload first a
+made_after tells payload first then x a (inl y) =
+    inl (backup_after tells payload first then x a y.0, lifted tells first then x (λ k l. IsUnderWayVolume k → IsLost a) y.1)
+made_after tells payload first then x a (inr y) = inr (underway_after tells first then x a y)
+
+-- a fault of such a backup that isn't a device's left the file as it was
+pub underway_fault : (tells : Type 0) (d : Pair) (f : BackupFault) → CountsAfter (is_backup_failure f) d.source_before d.source_after d.before d.after
+    → (is_backup_failure f ≡ false → tells → d.new ≡ d.old) → (f ≡ Memory → ⊥) → (tells → IsUnderwayUnmade d.source d.total f) → IsUnderwayMade tells d (backup_fault_answer f)
+underway_fault tells d Device count same own is = count
+underway_fault tells d Memory count same own is = absurd (own refl)
+underway_fault tells d f count same own is = (count, same refl, is)
+
+-- nor where there is no file
+pub unkept_fault : (tells : Type 0) (v : List ℕ) (n : ℕ) (f : BackupFault) → is_backup_failure f ≡ false → (f ≡ Memory → ⊥) → (tells → IsUnderwayUnmade v 18446744073709551615 f)
+    → IsUnderwayUnkept tells v n n (backup_fault_answer f)
+unkept_fault tells v n Device own some is = absurd (true≢false own)
+unkept_fault tells v n Memory own some is = absurd (some refl)
+unkept_fault tells v n f own some is = (refl, is)
 
 -- ---- with `--rescue`
 
@@ -59,12 +176,12 @@ rescue_settled tells size bytes is_failure s t u w (Err f) count ok kept told sa
 -- ---- of a file that wasn't found to be there and not empty
 
 module _ {D : Type 0} (tells : Type 0) (size : D → ℕ) (bytes : D → List ℕ) (failed : D → ℕ) (rescue : Bool) (payload : Data) (new : Result D InputFault) (a : Answer) where
-  with_reason : (v w : D) (r : Reason) → (r ≡ reason.Exists → ⊥) → IsWithoutFile tells payload (bytes v) (failed v) (failed w) (Unreadable r) a
+  with_reason : (v w : D) (r : Reason) → (r ≡ reason.Exists → ⊥) → IsUnmadeAnswer rescue tells payload (bytes v) (failed v) (failed w) (Unreadable r) a
       → AnswersBackup tells size bytes failed rescue payload (Ok v) (Ok w) (Err (Unreadable r)) new a
   with_reason v w reason.Exists other is = absurd (other refl)
   with_reason v w r other is = is
 
-  pub without_file : (v w : D) (f : InputFault) → (f ≡ Unreadable reason.Exists → ⊥) → IsWithoutFile tells payload (bytes v) (failed v) (failed w) f a
+  pub without_file : (v w : D) (f : InputFault) → (f ≡ Unreadable reason.Exists → ⊥) → IsUnmadeAnswer rescue tells payload (bytes v) (failed v) (failed w) f a
       → AnswersBackup tells size bytes failed rescue payload (Ok v) (Ok w) (Err f) new a
   without_file v w Absent other is = is
   without_file v w (Unreadable r) other is = with_reason v w r (λ e. other (ap Unreadable e)) is

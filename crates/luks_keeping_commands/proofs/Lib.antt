@@ -1,3 +1,5 @@
+pub mod NarrowFacts
+pub mod Lifted
 pub mod BackupFacts
 pub mod RestoreFacts
 pub mod DifferenceFacts

@@ -19,7 +19,7 @@ use Rattle.luks_commands.specs.declared.answers.Answer.{Answer}
 use Rattle.luks_edit.specs.declared.edit_fault.EditFault.TheVariants.{NoSuchToken}
 use Rattle.luks_commands.specs.declared.answers.Answer.TheVariants.{Accepted, Listed, ListedFully, Mapped, Tokens, Json, Underway, Opens, Closed, NoneOpens, Matches, Differs, Done, Compared, Rescued, Refused, DeviceFault, NoMemory}
 use Rattle.luks_commands.specs.declared.answers.Refusal.TheVariants as refusal
-use Rattle.luks_commands.specs.declared.underway_refusal.UnderwayRefusal.TheVariants.{Metadata, NoKey}
+use Rattle.luks_commands.specs.declared.underway_refusal.UnderwayRefusal.TheVariants.{Metadata, NoKey, Progressed}
 use Rattle.luks_commands.specs.declared.underway_shown.UnderwayShown.TheVariants as shown
 use Rattle.luks_underway_show.specs.declared.lines.Lines.{Lines}
 use Rattle.luks_underway_show.specs.declared.lines.Lines.TheVariants.{Few, All}
@@ -63,12 +63,16 @@ use Rattle.luks_keeping.specs.declared.backup_fault.BackupFault.TheVariants as b
 use Rattle.luks_keeping.specs.declared.comparison.Comparison.{Comparison}
 use Rattle.luks_keeping.specs.declared.over.Over.{Over}
 use Rattle.luks_keeping.specs.declared.restore_fault.RestoreFault.TheVariants as restoring
-use Rattle.luks_keeping_commands.specs.BackingUp.{AnswersBackup, IsBackupAnswer, IsMadeAnswer, IsNotKept, IsRescueAnswer, IsWithoutFile}
-use Rattle.luks_keeping_commands.specs.Comparing.{AnswersCompare, IsCompareAnswer}
-use Rattle.luks_keeping_commands.specs.KeepingKey.{shut_answer, AnswersKeyKept, IsKeyFileAnswer}
+use Rattle.luks_keeping_commands.specs.BackingUp.{AnswersBackup, IsBackupAnswer, IsMadeAnswer, IsNotKept, IsRescueAnswer, IsUnderwayMade, IsUnderwayUnkept, IsUnmadeAnswer, IsWithoutFile}
+use Rattle.luks_keeping_commands.specs.Comparing.{AnswersCompare, IsCompareAnswer, IsComparedAnswer}
+use Rattle.luks_keeping_commands.specs.ComparingUnderway.{IsUnderwayCompared}
+use Rattle.luks_keeping_commands.specs.KeepingKey.{refusal_answer, shut_answer, AnswersKeyKept, IsKeyFileAnswer}
+use Rattle.luks_keeping_commands.specs.declared.key_refusal.KeyRefusal.{KeyRefusal}
+use Rattle.luks_keeping_commands.specs.declared.key_refusal.KeyRefusal.TheVariants as unopened
 use Rattle.luks_keeping_commands.specs.KeepingToken.{line_of, IsTokenFileAnswer, IsTokenKept}
 use Rattle.luks_keeping_commands.specs.KeptFile.{unmade_answer, IsKept}
-use Rattle.luks_keeping_commands.specs.Restoring.{over_of, AnswersBoth, AnswersRestore, IsRestoreAnswer, IsRestoreBar}
+use Rattle.luks_keeping_commands.specs.Restoring.{over_of, AnswersBoth, AnswersRestore, IsPutBackAnswer, IsRestoreAnswer, IsRestoreBar}
+use Rattle.luks_keeping_commands.specs.RestoringUnderway.{IsUnderwayPutBack}
 use Rattle.luks_keeping_commands.specs.TwoFiles.{pair_of, Pair as TwoFiles}
 use Rattle.luks_edit_commands.specs.EditAnswers.{AnswersEdit, IsEditAnswer}
 use Rattle.luks_edit_commands.specs.Editing.{Given, Lacking}
@@ -591,8 +595,16 @@ rescue_there tells payload d (Refused (refusal.Backup f)) said = refl
 rescue_there tells payload d NoMemory said = refl
 rescue_there tells payload d a said = absurd said
 
+backup_underway : (tells : Type 0) (d : TwoFiles) (a : Answer) → IsUnderwayMade tells d a → EndsBackup a (own a)
+backup_underway tells d (Done slot) said = (said.1, refl)
+backup_underway tells d (Refused (refusal.Backup f)) said = refl
+backup_underway tells d (Refused (refusal.Underway (Metadata f))) said = refl
+backup_underway tells d DeviceFault said = refl
+backup_underway tells d a said = absurd said
+
 made_there : (rescue : Bool) (tells : Type 0) (payload : Data) (d : TwoFiles) (a : Answer) → IsMadeAnswer rescue tells payload d a → EndsBackup a (own a)
-made_there false tells payload d a said = backup_there tells payload d a said
+made_there false tells payload d a (inl said) = backup_there tells payload d a said.0
+made_there false tells payload d a (inr said) = backup_underway tells d a said
 made_there true tells payload d a said = rescue_there tells payload d a said
 
 not_kept_there : (tells : Type 0) (payload : Data) (v : List ℕ) (before after : ℕ) (a : Answer) → IsNotKept tells payload v before after a → EndsBackup a (own a)
@@ -605,11 +617,22 @@ without_there : (tells : Type 0) (payload : Data) (v : List ℕ) (before after :
 without_there tells payload v before after missed a (inl said) = not_kept_there tells payload v before after a said
 without_there tells payload v before after missed a (inr said) = unread_ends EndsBackup refl refl missed a said.2
 
+unkept_underway : (tells : Type 0) (v : List ℕ) (before after : ℕ) (a : Answer) → IsUnderwayUnkept tells v before after a → EndsBackup a (own a)
+unkept_underway tells v before after (Refused (refusal.Backup f)) said = refl
+unkept_underway tells v before after (Refused (refusal.Underway (Metadata f))) said = refl
+unkept_underway tells v before after a said = absurd said
+
+unmade_there : (rescue : Bool) (tells : Type 0) (payload : Data) (v : List ℕ) (before after : ℕ) (missed : InputFault) (a : Answer) → IsUnmadeAnswer rescue tells payload v before after missed a → EndsBackup a (own a)
+unmade_there false tells payload v before after missed a (inl said) = without_there tells payload v before after missed a said.0
+unmade_there false tells payload v before after missed a (inr (inl said)) = unkept_underway tells v before after a said
+unmade_there false tells payload v before after missed a (inr (inr said)) = unread_ends EndsBackup refl refl missed a said.2
+unmade_there true tells payload v before after missed a said = without_there tells payload v before after missed a said
+
 pub backup_ends : {D : Type 0} (tells : Type 0) (size : D → ℕ) (bytes : D → List ℕ) (failed : D → ℕ) (rescue : Bool) (payload : Data) (volume volume_new old new : Result D InputFault) (a : Answer)
     → AnswersBackup tells size bytes failed rescue payload volume volume_new old new a → EndsBackup a (own a)
 backup_ends tells size bytes failed rescue payload volume volume_new (Err (Unreadable reason.Exists)) new a is = subst (λ x. EndsBackup x (own x)) (sym is) refl
 backup_ends tells size bytes failed rescue payload (Ok volume) (Ok volume_new) (Ok old) (Ok new) a said = made_there rescue tells payload (pair_of size bytes failed volume volume_new old new) a said
-backup_ends tells size bytes failed rescue payload (Ok volume) (Ok volume_new) (Err missed) new a said = without_there tells payload (bytes volume) (failed volume) (failed volume_new) missed a said
+backup_ends tells size bytes failed rescue payload (Ok volume) (Ok volume_new) (Err missed) new a said = unmade_there rescue tells payload (bytes volume) (failed volume) (failed volume_new) missed a said
 backup_ends tells size bytes failed rescue payload (Err missed) volume_new old new a is = unread_ends EndsBackup refl refl missed a is
 backup_ends tells size bytes failed rescue payload volume volume_new old new a said = absurd said
 
@@ -619,6 +642,19 @@ restore_there tells payload over d (Refused (refusal.Restore f)) said = refl
 restore_there tells payload over d DeviceFault said = refl
 restore_there tells payload over d NoMemory said = refl
 restore_there tells payload over d a said = absurd said
+
+restore_underway : (tells : Type 0) (r : Restoring) (d : TwoFiles) (a : Answer) → IsUnderwayPutBack tells r d a → EndsRestore a (own a)
+restore_underway tells r d (Done slot) said = (said.1, refl)
+restore_underway tells r d (Refused (refusal.Restore f)) said = refl
+restore_underway tells r d (Refused (refusal.Underway Progressed)) said = refl
+restore_underway tells r d (Refused (refusal.Underway (Metadata f))) said = refl
+restore_underway tells r d (Refused (refusal.OtherUse found)) said = refl
+restore_underway tells r d DeviceFault said = refl
+restore_underway tells r d a said = absurd said
+
+put_back : (tells : Type 0) (r : Restoring) (d : TwoFiles) (a : Answer) → IsPutBackAnswer tells r d a → EndsRestore a (own a)
+put_back tells r d a (inl said) = restore_there tells r.payload (over_of r) d a said.0
+put_back tells r d a (inr said) = restore_underway tells r d a said
 
 -- what bars it
 restore_barred : (tells : Type 0) (r : Restoring) (b t : List ℕ) (x : Bar) → IsRestoreBar tells r b t x → (a : Answer) → a ≡ bar_answer x → EndsRestore a (own a)
@@ -630,7 +666,7 @@ restore_barred tells r b t bar.Device is a same = subst (λ y. EndsRestore y (ow
 
 restore_both : (tells : Type 0) (r : Restoring) (d : TwoFiles) (a : Answer) → AnswersBoth tells r d a → EndsRestore a (own a)
 restore_both tells r d a (inl held) = restore_barred tells r d.source d.old held.bar held.barred a held.is
-restore_both tells r d a (inr said) = restore_there tells r.payload (over_of r) d a said.1
+restore_both tells r d a (inr said) = put_back tells r d a said.1
 
 pub restore_ends : {D : Type 0} (tells : Type 0) (size : D → ℕ) (bytes : D → List ℕ) (failed : D → ℕ) (r : Restoring) (old new backup backup_new : Result D InputFault) (a : Answer)
     → AnswersRestore tells size bytes failed r old new backup backup_new a → EndsRestore a (own a)
@@ -652,9 +688,23 @@ compare_there tells payload d DeviceFault said = refl
 compare_there tells payload d NoMemory said = refl
 compare_there tells payload d a said = absurd said
 
+compare_underway : (tells : Type 0) (d : TwoFiles) (a : Answer) → IsUnderwayCompared tells d a → EndsCompare a (own a)
+compare_underway tells d (Compared c) said = current_ends (is_current c) c refl
+compare_underway tells d (Refused (refusal.Check f)) said = refl
+compare_underway tells d (Refused (refusal.Restore f)) said = refl
+compare_underway tells d (Refused (refusal.Underway Progressed)) said = refl
+compare_underway tells d (Refused (refusal.Underway (Metadata f))) said = refl
+compare_underway tells d DeviceFault said = refl
+compare_underway tells d NoMemory said = refl
+compare_underway tells d a said = absurd said
+
+compared_there : (tells : Type 0) (payload : Data) (d : TwoFiles) (a : Answer) → IsComparedAnswer tells payload d a → EndsCompare a (own a)
+compared_there tells payload d a (inl said) = compare_there tells payload d a said.0
+compared_there tells payload d a (inr said) = compare_underway tells d a said
+
 pub compare_ends : {D : Type 0} (tells : Type 0) (size : D → ℕ) (bytes : D → List ℕ) (failed : D → ℕ) (payload : Data) (old new backup backup_new : Result D InputFault) (a : Answer)
     → AnswersCompare tells size bytes failed payload old new backup backup_new a → EndsCompare a (own a)
-compare_ends tells size bytes failed payload (Ok old) (Ok new) (Ok backup) (Ok backup_new) a said = compare_there tells payload (pair_of size bytes failed backup backup_new old new) a said
+compare_ends tells size bytes failed payload (Ok old) (Ok new) (Ok backup) (Ok backup_new) a said = compared_there tells payload (pair_of size bytes failed backup backup_new old new) a said
 compare_ends tells size bytes failed payload (Ok old) new (Err missed) backup_new a is = unread_ends EndsCompare refl refl missed a is
 compare_ends tells size bytes failed payload (Err missed) new backup backup_new a is = unread_ends EndsCompare refl refl missed a is
 compare_ends tells size bytes failed payload old new backup backup_new a said = absurd said
@@ -700,11 +750,15 @@ unopened_ends slot (opening.Slot f) = refl
 unopened_ends slot opening.Device = refl
 unopened_ends slot opening.Memory = refl
 
-key_file_ends : {D : Type 0} (device : Device D) (slot : Option ℕ) (opened : Result (Option (List ℕ)) OpenFault) (old new : Result D InputFault) (a : Answer)
+refused_key_ends : (slot : Option ℕ) (f : KeyRefusal) → EndsKeepKey slot (refusal_answer f) (own (refusal_answer f))
+refused_key_ends slot (unopened.Open f) = unopened_ends slot f
+refused_key_ends slot (unopened.Underway r) = refl
+
+key_file_ends : {D : Type 0} (device : Device D) (slot : Option ℕ) (opened : Result (Option (List ℕ)) KeyRefusal) (old new : Result D InputFault) (a : Answer)
     → IsKeyFileAnswer device slot opened old new a → EndsKeepKey slot a (own a)
 key_file_ends device slot (Ok (Some key)) old new a said = kept_there device slot key new a said
 key_file_ends device slot (Ok None) old new a said = subst (λ x. EndsKeepKey slot x (own x)) (sym said.1) (shut_ends slot)
-key_file_ends device slot (Err f) old new a said = subst (λ x. EndsKeepKey slot x (own x)) (sym said.1) (unopened_ends slot f)
+key_file_ends device slot (Err f) old new a said = subst (λ x. EndsKeepKey slot x (own x)) (sym said.1) (refused_key_ends slot f)
 
 without_volume : (slot : Option ℕ) (is_long : Type 0) (unread : InputFault → Type 0) (f : InputFault) (a : Answer) → IsWordless is_long unread a ⊎ (a ≡ unread_answer f) → EndsKeepKey slot a (own a)
 without_volume slot is_long unread f a (inl said) = wordless_ends (EndsKeepKey slot) refl refl refl is_long unread a said

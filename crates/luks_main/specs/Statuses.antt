@@ -11,7 +11,7 @@ use Rattle.luks_edit.specs.declared.edit_fault.EditFault.TheVariants.{NoSuchToke
 use Rattle.luks_commands.specs.declared.answers.Answer.{Answer}
 use Rattle.luks_commands.specs.declared.answers.Answer.TheVariants.{Accepted, Listed, ListedFully, Mapped, Tokens, Json, Underway, Opens, Closed, NoneOpens, Matches, Differs, Done, Compared, Rescued, Refused, DeviceFault, NoMemory}
 use Rattle.luks_commands.specs.declared.answers.Refusal.TheVariants as refusal
-use Rattle.luks_commands.specs.declared.underway_refusal.UnderwayRefusal.TheVariants.{Metadata, NoKey}
+use Rattle.luks_commands.specs.declared.underway_refusal.UnderwayRefusal.TheVariants.{Metadata, NoKey, Progressed}
 use Rattle.luks_commands.specs.declared.underway_shown.UnderwayShown.TheVariants as shown
 use Rattle.luks_underway_show.specs.declared.lines.Lines.TheVariants.{Few, All}
 
@@ -140,6 +140,7 @@ abbrev pub EndsBackup : Answer → ℕ → Type 0
 EndsBackup (Done slot) status = (slot ≡ None) × (status ≡ 0)
 EndsBackup (Rescued lost) status = status ≡ 1
 EndsBackup (Refused (refusal.Backup fault)) status = status ≡ 1
+EndsBackup (Refused (refusal.Underway (Metadata fault))) status = status ≡ 1
 EndsBackup (Refused refusal.SameFile) status = status ≡ 1
 EndsBackup (Refused refusal.Exists) status = status ≡ 1
 EndsBackup answer status = EndsAny answer status
@@ -148,6 +149,8 @@ EndsBackup answer status = EndsAny answer status
 abbrev pub EndsRestore : Answer → ℕ → Type 0
 EndsRestore (Done slot) status = (slot ≡ None) × (status ≡ 0)
 EndsRestore (Refused (refusal.Restore fault)) status = status ≡ 1
+EndsRestore (Refused (refusal.Underway (Metadata fault))) status = status ≡ 1
+EndsRestore (Refused (refusal.Underway Progressed)) status = status ≡ 1
 EndsRestore (Refused refusal.SameFile) status = status ≡ 1
 EndsRestore (Refused (refusal.OtherUse found)) status = status ≡ 1
 EndsRestore (Refused refusal.Reencrypting) status = status ≡ 1
@@ -158,6 +161,8 @@ abbrev pub EndsCompare : Answer → ℕ → Type 0
 EndsCompare (Compared comparison) status = ((is_current comparison ≡ true) × (status ≡ 0)) ⊎ ((is_current comparison ≡ false) × (status ≡ 1))
 EndsCompare (Refused (refusal.Check fault)) status = status ≡ 1
 EndsCompare (Refused (refusal.Restore fault)) status = status ≡ 1
+EndsCompare (Refused (refusal.Underway (Metadata fault))) status = status ≡ 1
+EndsCompare (Refused (refusal.Underway Progressed)) status = status ≡ 1
 EndsCompare (Refused refusal.SameFile) status = status ≡ 1
 EndsCompare answer status = EndsAny answer status
 
@@ -167,6 +172,7 @@ EndsKeepKey slot (Done kept) status = (kept ≡ None) × (status ≡ 0)
 EndsKeepKey slot (Closed n) status = (slot ≡ Some n) × (status ≡ 1)
 EndsKeepKey slot NoneOpens status = (slot ≡ None) × (status ≡ 1)
 EndsKeepKey slot (Refused (refusal.Open fault)) status = status ≡ 1
+EndsKeepKey slot (Refused (refusal.Underway by_)) status = status ≡ 1
 EndsKeepKey slot (Refused refusal.LongPassphrase) status = status ≡ 1
 EndsKeepKey slot (Refused refusal.SameFile) status = status ≡ 1
 EndsKeepKey slot (Refused refusal.Exists) status = status ≡ 1
