@@ -27,12 +27,12 @@ use Rattle.luks_wide_reading.specs.Volume.{UnderwayGives, UnderwayRefuses, Under
 use Rattle.luks_wide_reading.proofs.VolumeFacts.{counts_underway}
 use Rattle.luks_commands.specs.Answer.{open_fault_answer}
 use Rattle.luks_commands.specs.Lost.{IsLost}
+use Rattle.luks_commands.specs.UnderwayAnswers.{IsMetadataRefused}
 use Rattle.luks_commands.specs.declared.answers.Answer.{Answer}
 use Rattle.luks_commands.specs.declared.answers.Answer.TheVariants.{Opens, Closed, NoneOpens, Refused, DeviceFault, NoMemory}
 use Rattle.luks_commands.specs.declared.answers.Refusal.TheVariants.{Open, Underway}
 use Rattle.luks_commands.specs.declared.underway_refusal.UnderwayRefusal.TheVariants.{Metadata, NoKey}
 use Rattle.luks_commands.specs.OpenAnswers.{wide_open_answer, wide_read_answer, IsAnyUnderway, IsOneUnderway, IsOpenAnswer, IsTried, IsTriedUnderway, IsUnderwayAnswer, IsWideAnswer, TakesMemoryUnderway}
-use Rattle.luks_commands.specs.UnderwayAnswers.{IsMetadataRefused}
 use Rattle.luks_commands.proofs.NotUnderway.{read_narrow, unread_narrow}
 use Rattle.luks_commands.proofs.OpenFacts.{answers_narrow, answers_unread}
 

@@ -5,7 +5,7 @@ ghost use Rattle.luks_area.specs.Ranges.{part};
 ghost use Rattle.luks2_header.specs.Sizes.{IsListed};
 ghost use Rattle.luks_json.specs.AreaText.{JsonText};
 ghost use Rattle.luks_wider.specs.Wide.{IsWiderFault};
-ghost use Rattle.luks_finding.specs.Faults.{is_find_failure};
+ghost use Rattle.luks_finding.specs.Faults.{faulty, is_find_failure};
 ghost use Rattle.luks_finding.specs.Starts.{volume_at, IsWholeCopy};
 ghost use Rattle.luks_finding.specs.Telling.{IsMemoryOnly};
 
@@ -104,9 +104,18 @@ fn is_faultless(alloc: Global, json: &[u8]) -> Result<bool, FindFault>
         (λ is. IsTrue is ↔ ((f : WideFault) → IsWiderFault json.now f → ⊥)) }
     ensures refused { IfErr result (λ fault. fault ≡ FindFault.Memory) }
 {
-    match read_wider(alloc, json) {
-        Ok(_) => Ok(true),
-        Err(WideFault::Meta(MetaFault::Memory)) => Err(FindFault::Memory),
-        Err(_) => Ok(false),
+    let Err(fault) = read_wider(alloc, json) else {
+        return Ok(true);
+    };
+    faulty(fault)
+}
+
+/// Whether metadata that is refused by this fault has none: it has, but that want of memory leaves it open.
+fn faulty(fault: WideFault) -> Result<bool, FindFault>
+    ensures { result ≡ faulty fault }
+{
+    match fault {
+        WideFault::Meta(MetaFault::Memory) => Err(FindFault::Memory),
+        _ => Ok(false),
     }
 }
