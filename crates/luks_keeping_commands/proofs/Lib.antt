@@ -5,3 +5,4 @@ pub mod RestoreFacts
 pub mod DifferenceFacts
 pub mod KeyFacts
 pub mod KeptFacts
+pub mod CompareFacts

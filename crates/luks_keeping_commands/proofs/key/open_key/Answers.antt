@@ -1,29 +1,53 @@
-use Rattle.std.proofs.Common.{None, Some, sym, subst}
-use Rattle.std.proofs.lemmas.Result.{err_from_is_err_and}
-use Rattle.luks_slot.specs.declared.allowed.Allowed.{Allowed}
+use Rattle.std.proofs.Common.{List, ℕ, Err, ap, refl, sym, subst}
+use Rattle.luks_reading.specs.Conversions.{unread_opened}
+use Rattle.luks_reading.specs.Header.{IsHeader}
+use Rattle.luks_wide_reading.specs.Headers.{IsUnderwayCopy, IsWideHeader, IsWideUnread}
 use Rattle.luks_commands.specs.OpenAnswers.{allowed_of}
-use Rattle.luks_keeping_commands.specs.KeepingKey.{IsKeyOpened}
-use Rattle.luks_keeping_commands.proofs.KeyFacts.{slot_key, unread_key, volume_key}
+use Rattle.luks_commands.proofs.NotUnderway.{read_narrow}
+use Rattle.luks_keeping_commands.specs.KeepingKey.{narrow, refused, under_way, IsKeyOpened, IsUnderwayFound}
+use Rattle.luks_keeping_commands.specs.declared.key_refusal.KeyRefusal.TheVariants as unopened
+use Rattle.luks_keeping_commands.proofs.KeyFacts.{plain_unread, unread_key, unread_lost}
 use Rattle.luks_keeping_commands.proofs.key.open_key.Goals as goal
 
-pub returns-in_err-header-clause-opened : goal.returns-in_err-header-clause-opened
-returns-in_err-header-clause-opened g c = λ tells.
-    let p = err_from_is_err_and c.from_residual.result c.from_residual.ensures.1 in
-    rw (p.1, p.2)
-    (unread_key (allowed_of c.args.keeping.now.memory c.args.keeping.now.older) (g.D.Device.bytes c.args.device.now) c.args.keeping.now.slot c.args.passphrase.now
-    c.in_err-header.field-0.0 (c.in_err-header.ensures.refused tells))
+pub returns-in-Ok-Narrow-clause-opened : goal.returns-in-Ok-Narrow-clause-opened
+returns-in-Ok-Narrow-clause-opened g c = λ told.
+    let v = g.D.Device.bytes c.args.device.now in
+    let allowed = allowed_of c.args.keeping.now.memory c.args.keeping.now.older in
+    let header = c.in-Ok-Narrow.header in
+    let same = c.in-Ok-Narrow.ensures.unchanged.same told in
+    let is = subst (IsWideHeader v) c.in-Ok-Narrow.field-0-is (c.in-Ok-Narrow.ensures.read told) in
+    narrow (record {
+      opened = c.open_narrow.result;
+      is = c.opened_by.ensures;
+      told = subst (λ (l : List ℕ). IsKeyOpened allowed l c.args.keeping.now.slot c.args.passphrase.now c.open_narrow.result) same
+          (c.open_narrow.ensures.opened told (subst (λ (l : List ℕ). IsHeader l header) (sym same) is));
+      own = λ u. absurd (read_narrow v header is u);
+    })
 
-pub returns-in-Some-clause-opened : goal.returns-in-Some-clause-opened
-returns-in-Some-clause-opened g c = λ tells.
-    rw c.in-Some.is
-    (subst (λ (a : Allowed). IsKeyOpened a (g.D.Device.bytes c.args.device.now) (Some c.in-Some.n) c.args.passphrase.now c.try_one.result) c.allowed_of-allowed.ensures
-    (slot_key g.D.Device.tells c.allowed_of-allowed.result (g.D.Device.bytes c.args.device.now) _ c.in_ok-header.header c.args.passphrase.now
-    c.read_header.ensures.unchanged.same c.in_ok-header.ensures.read tells c.in-Some.n c.try_one.result c.try_one.ensures.answers))
+pub returns-in-Ok-Underway-clause-opened : goal.returns-in-Ok-Underway-clause-opened
+returns-in-Ok-Underway-clause-opened g c = λ told.
+    let v = g.D.Device.bytes c.args.device.now in
+    let allowed = allowed_of c.args.keeping.now.memory c.args.keeping.now.older in
+    let copy = c.in-Ok-Underway.copy in
+    let same = c.in-Ok-Underway.ensures.unchanged.same told in
+    let is = subst (IsWideHeader v) c.in-Ok-Underway.field-0-is (c.in-Ok-Underway.ensures.read told) in
+    under_way (subst (λ (l : List ℕ). IsUnderwayFound allowed l c.args.keeping.now.slot c.args.passphrase.now c.open_underway.result) same
+    (c.open_underway.ensures.opened told (subst (λ (l : List ℕ). IsUnderwayCopy l copy) (sym same) is)))
 
-pub returns-clause-opened : goal.returns-clause-opened
-returns-clause-opened g c = λ tells.
-    rw c.in-None.is
-    (subst (λ (a : Allowed). IsKeyOpened a (g.D.Device.bytes c.args.device.now) None c.args.passphrase.now c.key_of.result) c.allowed_of-allowed.ensures
-    (subst (IsKeyOpened c.allowed_of-allowed.result (g.D.Device.bytes c.args.device.now) None c.args.passphrase.now) (sym c.key_of.ensures)
-    (volume_key g.D.Device.tells c.allowed_of-allowed.result (g.D.Device.bytes c.args.device.now) _ c.in_ok-header.header c.args.passphrase.now
-    c.read_header.ensures.unchanged.same c.in_ok-header.ensures.read tells c.try_each.result c.try_each.ensures.answers)))
+pub returns-in-Err-Read-clause-opened : goal.returns-in-Err-Read-clause-opened
+returns-in-Err-Read-clause-opened g c = λ told.
+    let v = g.D.Device.bytes c.args.device.now in
+    let allowed = allowed_of c.args.keeping.now.memory c.args.keeping.now.older in
+    let fault = c.in-Err-Read.fault in
+    let is = subst (IsWideUnread v) c.in-Err-Read.field-0-is (c.in-Err-Read.ensures.refused told) in
+    narrow (record {
+      opened = Err (unread_opened fault);
+      is = ap (λ f. Err (unopened.Open f)) c.from.ensures;
+      told = unread_key allowed v c.args.keeping.now.slot c.args.passphrase.now fault (plain_unread v fault is);
+      own = unread_lost v fault is;
+    })
+
+pub returns-in-Err-Underway-clause-opened : goal.returns-in-Err-Underway-clause-opened
+returns-in-Err-Underway-clause-opened g c = λ told.
+    refused c.in-Err-Underway.fault refl
+    (_, subst (IsWideUnread (g.D.Device.bytes c.args.device.now)) c.in-Err-Underway.field-0-is (c.in-Err-Underway.ensures.refused told))
