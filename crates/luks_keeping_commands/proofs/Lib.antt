@@ -6,3 +6,4 @@ pub mod DifferenceFacts
 pub mod KeyFacts
 pub mod KeptFacts
 pub mod CompareFacts
+mod UseFacts

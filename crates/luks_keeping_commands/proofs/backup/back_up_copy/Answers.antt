@@ -2,6 +2,7 @@ use Rattle.std.proofs.Common.{refl, sym, subst}
 use Rattle.luks_keeping.specs.BackupFaults.{is_backup_failure}
 use Rattle.luks_commands.proofs.BesideFacts.{settled_by}
 use Rattle.luks_keeping_commands.specs.BackingUp.{IsUnderwayMade}
+use Rattle.luks_keeping_commands.specs.TwoFiles.{pair_of, Pair}
 use Rattle.luks_keeping_commands.proofs.BackupFacts.{underway_fault}
 use Rattle.luks_keeping_commands.proofs.backup.back_up_copy.Goals as goal
 
@@ -29,6 +30,7 @@ returns-in-Err-2-clause-settled g c = λ told a b.
 
 pub returns-in-Err-2-clause-answers : goal.returns-in-Err-2-clause-answers
 returns-in-Err-2-clause-answers g c =
-    subst (IsUnderwayMade g.D.Device.tells _) (sym c.not_kept-in-Err-2.ensures)
-    (underway_fault g.D.Device.tells _ c.in-Err.fault c.in-Err.ensures.count
+    let d : Pair = pair_of g.D.Device.size g.D.Device.bytes g.D.Device.failed c.args.volume.now c.back_up_underway.new.source c.args.target.now c.back_up_underway.new.target in
+    subst (IsUnderwayMade g.D.Device.tells d) (sym c.not_kept-in-Err-2.ensures)
+    (underway_fault g.D.Device.tells d c.in-Err.fault c.in-Err.ensures.count
     (λ is. (c.in-Err.ensures.refused is).same) c.in-Err.ensures.no_memory c.in-Err.ensures.fault)

@@ -49,8 +49,9 @@ returns-in-Err-Memory-clause-answers g c =
 
 pub returns-in-Err-clause-answers : goal.returns-in-Err-clause-answers
 returns-in-Err-clause-answers g c =
-    subst (IsComparedAnswer g.D.Device.tells c.args.comparing.now.payload _) (sym c.refused.ensures.answer)
-    (volume_fault g.D.Device.tells c.args.comparing.now.payload _ c.in-Err.fault c.in-Ok.ensures.count c.in-Err.ensures.count c.in-Ok.ensures.formed c.in-Err.ensures.refused)
+    let d : Pair = pair_of g.D.Device.size g.D.Device.bytes g.D.Device.failed c.args.backup.now c.read_outline.new.device c.args.volume.now c.read_outline-2.new.device in
+    subst (IsComparedAnswer g.D.Device.tells c.args.comparing.now.payload d) (sym c.refused.ensures.answer)
+    (volume_fault g.D.Device.tells c.args.comparing.now.payload d c.in-Err.fault c.in-Ok.ensures.count c.in-Err.ensures.count c.in-Ok.ensures.formed c.in-Err.ensures.refused)
 
 pub returns-then-is_other_volume-clause-answers : goal.returns-then-is_other_volume-clause-answers
 returns-then-is_other_volume-clause-answers g c = inl (
