@@ -9,6 +9,7 @@ use Rattle.luks_reading.specs.Checked.{WellFormed}
 use Rattle.luks_reading.specs.Header.{NeedsMetadata}
 use Rattle.luks_reading.specs.declared.report.Data.{Data}
 use Rattle.luks_rules.specs.declared.fault.MetaFault.{MetaFault}
+use Rattle.luks1_header.specs.declared.fault.HeadFault.{HeadFault}
 use Rattle.luks_reading.specs.declared.check_fault.CheckFault.{CheckFault}
 use Rattle.luks_reading.specs.declared.check_fault.CheckFault.TheVariants as check
 use Rattle.luks_reading.specs.declared.read_fault.ReadFault.{ReadFault}
@@ -86,12 +87,12 @@ pub made_refused : (tells : Type 0) (payload : Data) (d : Pair) (f : CheckFault)
     → IsMadeAnswer false tells payload d (backup_fault_answer (NotAccepted f))
 made_refused tells payload d f none same is other = inl ((none, same, is), λ told u. absurd (other told u))
 
--- what isn't read by the wider reading has nothing under way
-pub unread_other : (v : List ℕ) (f : ReadFault) → IsWideUnread v (unread.Read f) → (f ≡ reading.Device → ⊥) → (f ≡ reading.Memory → ⊥) → IsUnderWayVolume v → ⊥
-unread_other v (reading.Head f) x no_device no_memory u = unread_narrow v (reading.Head f) x u
-unread_other v (reading.Meta f) x no_device no_memory u = unread_narrow v (reading.Meta f) x u
-unread_other v reading.Device x no_device no_memory u = no_device refl
-unread_other v reading.Memory x no_device no_memory u = no_memory refl
+-- what isn't read by the wider reading by such a fault has nothing under way
+pub head_other : (v : List ℕ) (f : ReadFault) (g : HeadFault) → f ≡ reading.Head g → IsWideUnread v (unread.Read f) → IsUnderWayVolume v → ⊥
+head_other v f g e x u = unread_narrow v (reading.Head g) (subst (λ (h : ReadFault). IsWideUnread v (unread.Read h)) e x) u
+
+pub meta_other : (v : List ℕ) (f : ReadFault) (g : MetaFault) → f ≡ reading.Meta g → IsWideUnread v (unread.Read f) → IsUnderWayVolume v → ⊥
+meta_other v f g e x u = unread_narrow v (reading.Meta g) (subst (λ (h : ReadFault). IsWideUnread v (unread.Read h)) e x) u
 
 -- ---- after calls that changed nothing
 

@@ -72,3 +72,7 @@ after_other {D} tells size bytes failed source source_new old mid new two long a
 pub counted_own : (b : Bool) (s t u w : ℕ) → b ≡ false → CountsAfter b s t u w → (t ≡ s) × (w ≡ u)
 counted_own true s t u w own count = absurd (true≢false own)
 counted_own false s t u w own count = count
+
+-- what equals the first of two equals the second
+pub turned : {A : Type 0} {a b c : A} → a ≡ c → a ≡ b → b ≡ c
+turned x y = sym y ∙ x

@@ -2,12 +2,12 @@ use Rattle.std.proofs.Common.{false, inl, inr, refl, sym, subst, ap, ◌∙◌}
 use Rattle.luks_area.specs.Device.{count_after}
 use Rattle.luks_reading.specs.declared.check_fault.CheckFault.TheVariants.{Meta}
 use Rattle.luks_reading.specs.Failures.{is_read_failure}
-use Rattle.luks_wide_reading.specs.declared.read_fault.WideReadFault.TheVariants.{Read}
 use Rattle.luks_wide_reading.specs.Faults.{is_wide_read_failure}
 use Rattle.luks_wide_reading.specs.Headers.{IsWideHeader, IsWideUnread}
 use Rattle.luks_commands.proofs.NotUnderway.{read_narrow}
 use Rattle.luks_keeping_commands.specs.BackingUp.{IsUnmadeAnswer}
-use Rattle.luks_keeping_commands.proofs.BackupFacts.{unkept_fault, unmade_file_after, unmade_refused, unread_other}
+use Rattle.luks_keeping_commands.proofs.BackupFacts.{unkept_fault, unmade_file_after, unmade_refused, head_other, meta_other}
+use Rattle.luks_keeping_commands.proofs.Lifted.{turned}
 use Rattle.luks_keeping_commands.proofs.backup.without_file_wide.Goals as goal
 
 pub returns-in-Ok-clause-answers : goal.returns-in-Ok-clause-answers
@@ -54,12 +54,12 @@ returns-in-Err-Read-Head-clause-answers g c =
     let n = g.D.Device.failed c.args.volume.now in
     let k = g.D.Device.failed c.read_wide_header.new.device in
     let payload = c.args.backing_up.now.payload in
+    let inner = turned {b = c.in-Err-Read-Head.field-0-0} c.in-Err-Read-Head.field-0-0-is (rw c.in-Err-Read-Head.field-0-is refl) in
     let counted = c.in-Err-Read-Head.ensures.count ∙ ap (λ f. count_after (is_wide_read_failure f) n) c.in-Err-Read-Head.field-0-is
-        ∙ ap (λ f. count_after (is_read_failure f) n) c.in-Err-Read-Head.field-0-0-is in
+        ∙ ap (λ f. count_after (is_read_failure f) n) inner in
     subst (IsUnmadeAnswer false g.D.Device.tells payload v n k c.args.missed) (sym c.narrow_answer-in-Err-Read-Head.ensures)
     (unmade_refused g.D.Device.tells payload v n k c.args.missed (Meta c.args.fault) counted c.requires.refused
-    (λ told u. unread_other v _ (subst (λ f. IsWideUnread v (Read f)) c.in-Err-Read-Head.field-0-0-is
-    (subst (IsWideUnread v) c.in-Err-Read-Head.field-0-is (c.in-Err-Read-Head.ensures.refused told))) (λ e. cc) (λ e. cc) u))
+    (λ told u. head_other v _ _ inner (subst (IsWideUnread v) c.in-Err-Read-Head.field-0-is (c.in-Err-Read-Head.ensures.refused told)) u))
 
 pub returns-in-Err-Read-Meta-clause-answers : goal.returns-in-Err-Read-Meta-clause-answers
 returns-in-Err-Read-Meta-clause-answers g c =
@@ -67,9 +67,9 @@ returns-in-Err-Read-Meta-clause-answers g c =
     let n = g.D.Device.failed c.args.volume.now in
     let k = g.D.Device.failed c.read_wide_header.new.device in
     let payload = c.args.backing_up.now.payload in
+    let inner = turned {b = c.in-Err-Read-Meta.field-0-0} c.in-Err-Read-Meta.field-0-0-is (rw c.in-Err-Read-Meta.field-0-is refl) in
     let counted = c.in-Err-Read-Meta.ensures.count ∙ ap (λ f. count_after (is_wide_read_failure f) n) c.in-Err-Read-Meta.field-0-is
-        ∙ ap (λ f. count_after (is_read_failure f) n) c.in-Err-Read-Meta.field-0-0-is in
+        ∙ ap (λ f. count_after (is_read_failure f) n) inner in
     subst (IsUnmadeAnswer false g.D.Device.tells payload v n k c.args.missed) (sym c.narrow_answer-in-Err-Read-Meta.ensures)
     (unmade_refused g.D.Device.tells payload v n k c.args.missed (Meta c.args.fault) counted c.requires.refused
-    (λ told u. unread_other v _ (subst (λ f. IsWideUnread v (Read f)) c.in-Err-Read-Meta.field-0-0-is
-    (subst (IsWideUnread v) c.in-Err-Read-Meta.field-0-is (c.in-Err-Read-Meta.ensures.refused told))) (λ e. cc) (λ e. cc) u))
+    (λ told u. meta_other v _ _ inner (subst (IsWideUnread v) c.in-Err-Read-Meta.field-0-is (c.in-Err-Read-Meta.ensures.refused told)) u))
