@@ -31,7 +31,7 @@ pub returns-in-Err-Read-Head-clause-answers : goal.returns-in-Err-Read-Head-clau
 returns-in-Err-Read-Head-clause-answers g c =
     let v = g.D.Device.bytes c.args.volume.now in
     let d : Pair = pair_of g.D.Device.size g.D.Device.bytes g.D.Device.failed c.args.volume.now c.read_wide_header.new.device c.args.target.now c.args.target.now in
-    let inner = turned {b = c.in-Err-Read-Head.field-0-0} c.in-Err-Read-Head.field-0-0-is (rw c.in-Err-Read-Head.field-0-is refl) in
+    let inner = turned {b = c.in-Err-Read-Head.field-0-0} c.in-Err-Read-Head.field-0-0-is refl in
     let counted = c.in-Err-Read-Head.ensures.count ∙ ap (λ f. count_after (is_wide_read_failure f) (g.D.Device.failed c.args.volume.now)) c.in-Err-Read-Head.field-0-is
         ∙ ap (λ f. count_after (is_read_failure f) (g.D.Device.failed c.args.volume.now)) inner in
     subst (IsMadeAnswer false g.D.Device.tells c.args.backing_up.now.payload d) (sym c.narrow_answer-in-Err-Read-Head.ensures)
@@ -42,7 +42,7 @@ pub returns-in-Err-Read-Meta-clause-answers : goal.returns-in-Err-Read-Meta-clau
 returns-in-Err-Read-Meta-clause-answers g c =
     let v = g.D.Device.bytes c.args.volume.now in
     let d : Pair = pair_of g.D.Device.size g.D.Device.bytes g.D.Device.failed c.args.volume.now c.read_wide_header.new.device c.args.target.now c.args.target.now in
-    let inner = turned {b = c.in-Err-Read-Meta.field-0-0} c.in-Err-Read-Meta.field-0-0-is (rw c.in-Err-Read-Meta.field-0-is refl) in
+    let inner = turned {b = c.in-Err-Read-Meta.field-0-0} c.in-Err-Read-Meta.field-0-0-is refl in
     let counted = c.in-Err-Read-Meta.ensures.count ∙ ap (λ f. count_after (is_wide_read_failure f) (g.D.Device.failed c.args.volume.now)) c.in-Err-Read-Meta.field-0-is
         ∙ ap (λ f. count_after (is_read_failure f) (g.D.Device.failed c.args.volume.now)) inner in
     subst (IsMadeAnswer false g.D.Device.tells c.args.backing_up.now.payload d) (sym c.narrow_answer-in-Err-Read-Meta.ensures)
