@@ -33,7 +33,7 @@ returns-in-Err-Read-Head-clause-answers g c =
     let d : Pair = pair_of g.D.Device.size g.D.Device.bytes g.D.Device.failed c.args.volume.now c.read_wide_header.new.device c.args.target.now c.args.target.now in
     let inner = turned {b = c.in-Err-Read-Head.field-0-0} c.in-Err-Read-Head.field-0-0-is refl in
     let counted = c.in-Err-Read-Head.ensures.count ∙ ap (λ f. count_after (is_wide_read_failure f) (g.D.Device.failed c.args.volume.now)) c.in-Err-Read-Head.field-0-is
-        ∙ ap (λ f. count_after (is_read_failure f) (g.D.Device.failed c.args.volume.now)) inner in
+    ∙ ap (λ f. count_after (is_read_failure f) (g.D.Device.failed c.args.volume.now)) inner in
     subst (IsMadeAnswer false g.D.Device.tells c.args.backing_up.now.payload d) (sym c.narrow_answer-in-Err-Read-Head.ensures)
     (made_refused g.D.Device.tells c.args.backing_up.now.payload d (Meta c.args.fault) (counted, refl) (λ told. refl) c.requires.refused
     (λ told u. head_other v _ _ inner (subst (IsWideUnread v) c.in-Err-Read-Head.field-0-is (c.in-Err-Read-Head.ensures.refused told)) u))
@@ -44,7 +44,7 @@ returns-in-Err-Read-Meta-clause-answers g c =
     let d : Pair = pair_of g.D.Device.size g.D.Device.bytes g.D.Device.failed c.args.volume.now c.read_wide_header.new.device c.args.target.now c.args.target.now in
     let inner = turned {b = c.in-Err-Read-Meta.field-0-0} c.in-Err-Read-Meta.field-0-0-is refl in
     let counted = c.in-Err-Read-Meta.ensures.count ∙ ap (λ f. count_after (is_wide_read_failure f) (g.D.Device.failed c.args.volume.now)) c.in-Err-Read-Meta.field-0-is
-        ∙ ap (λ f. count_after (is_read_failure f) (g.D.Device.failed c.args.volume.now)) inner in
+    ∙ ap (λ f. count_after (is_read_failure f) (g.D.Device.failed c.args.volume.now)) inner in
     subst (IsMadeAnswer false g.D.Device.tells c.args.backing_up.now.payload d) (sym c.narrow_answer-in-Err-Read-Meta.ensures)
     (made_refused g.D.Device.tells c.args.backing_up.now.payload d (Meta c.args.fault) (counted, refl) (λ told. refl) c.requires.refused
     (λ told u. meta_other v _ _ inner (subst (IsWideUnread v) c.in-Err-Read-Meta.field-0-is (c.in-Err-Read-Meta.ensures.refused told)) u))

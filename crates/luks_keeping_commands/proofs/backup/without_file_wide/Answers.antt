@@ -56,7 +56,7 @@ returns-in-Err-Read-Head-clause-answers g c =
     let payload = c.args.backing_up.now.payload in
     let inner = turned {b = c.in-Err-Read-Head.field-0-0} c.in-Err-Read-Head.field-0-0-is (rw c.in-Err-Read-Head.field-0-is refl) in
     let counted = c.in-Err-Read-Head.ensures.count ∙ ap (λ f. count_after (is_wide_read_failure f) n) c.in-Err-Read-Head.field-0-is
-        ∙ ap (λ f. count_after (is_read_failure f) n) inner in
+    ∙ ap (λ f. count_after (is_read_failure f) n) inner in
     subst (IsUnmadeAnswer false g.D.Device.tells payload v n k c.args.missed) (sym c.narrow_answer-in-Err-Read-Head.ensures)
     (unmade_refused g.D.Device.tells payload v n k c.args.missed (Meta c.args.fault) counted c.requires.refused
     (λ told u. head_other v _ _ inner (subst (IsWideUnread v) c.in-Err-Read-Head.field-0-is (c.in-Err-Read-Head.ensures.refused told)) u))
@@ -69,7 +69,7 @@ returns-in-Err-Read-Meta-clause-answers g c =
     let payload = c.args.backing_up.now.payload in
     let inner = turned {b = c.in-Err-Read-Meta.field-0-0} c.in-Err-Read-Meta.field-0-0-is (rw c.in-Err-Read-Meta.field-0-is refl) in
     let counted = c.in-Err-Read-Meta.ensures.count ∙ ap (λ f. count_after (is_wide_read_failure f) n) c.in-Err-Read-Meta.field-0-is
-        ∙ ap (λ f. count_after (is_read_failure f) n) inner in
+    ∙ ap (λ f. count_after (is_read_failure f) n) inner in
     subst (IsUnmadeAnswer false g.D.Device.tells payload v n k c.args.missed) (sym c.narrow_answer-in-Err-Read-Meta.ensures)
     (unmade_refused g.D.Device.tells payload v n k c.args.missed (Meta c.args.fault) counted c.requires.refused
     (λ told u. meta_other v _ _ inner (subst (IsWideUnread v) c.in-Err-Read-Meta.field-0-is (c.in-Err-Read-Meta.ensures.refused told)) u))

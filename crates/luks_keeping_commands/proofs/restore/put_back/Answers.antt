@@ -7,7 +7,7 @@ use Rattle.luks_keeping_commands.specs.Restoring.{IsPutBackAnswer, over_of}
 use Rattle.luks_keeping_commands.specs.TwoFiles.{pair_of, Pair}
 use Rattle.luks_keeping_commands.proofs.Lifted.{after_both}
 use Rattle.luks_keeping_commands.proofs.NarrowFacts.{formed_other}
-use Rattle.luks_keeping_commands.proofs.RestoreFacts.{answer_after, put_after, put_fault}
+use Rattle.luks_keeping_commands.proofs.RestoreFacts.{answer_after, keeps_after, put_after, put_fault}
 use Rattle.luks_keeping_commands.proofs.restore.put_back.Goals as goal
 
 pub returns-in-Ok-accepted_header-clause-answers : goal.returns-in-Ok-accepted_header-clause-answers
@@ -34,14 +34,14 @@ returns-in-Err-Meta-clause-answers g c =
 pub returns-in-Err-Head-clause-answers : goal.returns-in-Err-Head-clause-answers
 returns-in-Err-Head-clause-answers g c =
     let d : Pair = pair_of g.D.Device.size g.D.Device.bytes g.D.Device.failed c.args.backup.now c.accepted_header.new.device c.args.volume.now c.outline_there.new.device in
-    subst (IsPutBackAnswer g.D.Device.tells c.args.restoring.now d) (sym c.refused_backup.ensures)
+    subst (IsPutBackAnswer g.D.Device.tells c.args.restoring.now d) (sym (rw c.in-Err-Head.field-0-is at c.refused_backup.ensures))
     (put_fault g.D.Device.tells c.args.restoring.now d _ (check.Head c.in-Err-Head.fault) c.in-Err-Head.field-0-is c.in-Err-Head.ensures.count c.in-Ok.ensures.count c.in-Ok.ensures.unchanged.same
     c.in-Err-Head.ensures.refused (λ m e. cc))
 
 pub returns-in-Err-Area-clause-answers : goal.returns-in-Err-Area-clause-answers
 returns-in-Err-Area-clause-answers g c =
     let d : Pair = pair_of g.D.Device.size g.D.Device.bytes g.D.Device.failed c.args.backup.now c.accepted_header.new.device c.args.volume.now c.outline_there.new.device in
-    subst (IsPutBackAnswer g.D.Device.tells c.args.restoring.now d) (sym c.refused_backup-in-Err-Area.ensures)
+    subst (IsPutBackAnswer g.D.Device.tells c.args.restoring.now d) (sym (rw c.in-Err-Area.field-0-is at c.refused_backup-in-Err-Area.ensures))
     (put_fault g.D.Device.tells c.args.restoring.now d _ (check.Area c.in-Err-Area.fault) c.in-Err-Area.field-0-is c.in-Err-Area.ensures.count c.in-Ok.ensures.count c.in-Ok.ensures.unchanged.same
     c.in-Err-Area.ensures.refused (λ m e. cc))
 
@@ -57,3 +57,15 @@ returns-in-Err-Memory-clause-answers g c =
     let d : Pair = pair_of g.D.Device.size g.D.Device.bytes g.D.Device.failed c.args.backup.now c.accepted_header.new.device c.args.volume.now c.outline_there.new.device in
     put_fault g.D.Device.tells c.args.restoring.now d _ check.Memory c.in-Err-Memory.field-0-is c.in-Err-Memory.ensures.count c.in-Ok.ensures.count c.in-Ok.ensures.unchanged.same
     c.in-Err-Memory.ensures.refused (λ m e. cc)
+
+pub returns-in-Ok-accepted_header-clause-rest : goal.returns-in-Ok-accepted_header-clause-rest
+returns-in-Ok-accepted_header-clause-rest g c = λ told.
+    let bytes = g.D.Device.bytes in
+    keeps_after c.args.restoring.now.payload (bytes c.args.backup.now) (bytes c.accepted_header.new.device) (bytes c.args.volume.now) (bytes c.outline_there.new.device)
+    (bytes c.put_over.new.volume) (c.in-Ok-accepted_header.ensures.unchanged.same told) (c.in-Ok.ensures.unchanged.same told) (c.put_over.ensures.rest told)
+
+pub returns-in-Err-Meta-clause-rest : goal.returns-in-Err-Meta-clause-rest
+returns-in-Err-Meta-clause-rest g c = λ told.
+    let bytes = g.D.Device.bytes in
+    keeps_after c.args.restoring.now.payload (bytes c.args.backup.now) (bytes c.accepted_header.new.device) (bytes c.args.volume.now) (bytes c.outline_there.new.device)
+    (bytes c.put_back_wide.new.volume) (c.in-Err-Meta.ensures.unchanged.same told) (c.in-Ok.ensures.unchanged.same told) (c.put_back_wide.ensures.rest told)

@@ -1,7 +1,7 @@
 use Rattle.std.proofs.Common.{List, ℕ, sym, subst, inl, inr}
 use Rattle.luks_keeping_commands.specs.Restoring.{KeepsRest}
 use Rattle.luks_keeping_commands.proofs.Lifted.{after_both}
-use Rattle.luks_keeping_commands.proofs.RestoreFacts.{keeps_same, put_after}
+use Rattle.luks_keeping_commands.proofs.RestoreFacts.{keeps_after, keeps_same, put_after}
 use Rattle.luks_keeping_commands.proofs.restore.put_unless.Goals as goal
 
 pub returns-in-Ok-clause-answers : goal.returns-in-Ok-clause-answers
@@ -37,3 +37,9 @@ returns-in-Err-2-clause-rest g c = λ tells.
     let b : List ℕ = g.D.Device.bytes c.args.backup.now in
     let t : List ℕ = g.D.Device.bytes c.args.volume.now in
     subst (KeepsRest c.args.restoring.now.payload b t) (sym (c.in-Err.ensures.unchanged.same tells)) (keeps_same c.args.restoring.now.payload b t)
+
+pub returns-in-Ok-clause-rest : goal.returns-in-Ok-clause-rest
+returns-in-Ok-clause-rest g c = λ told.
+    let bytes = g.D.Device.bytes in
+    keeps_after c.args.restoring.now.payload (bytes c.args.backup.now) (bytes c.judge_volume.new.backup) (bytes c.args.volume.now) (bytes c.judge_volume.new.volume)
+    (bytes c.put_back.new.volume) (c.in-Ok.ensures.kept.same told) (c.in-Ok.ensures.unchanged.same told) (c.put_back.ensures.rest told)
