@@ -36,10 +36,17 @@ pub(crate) fn note_next<E: Write>(
 
 /// Whether `check` refuses the volume by the type of an object, as where something is under way in it.
 fn has_other_type(verdict: &Answer) -> bool {
-    matches!(
-        verdict,
-        Answer::Refused(Refusal::Check(CheckFault::Meta(MetaFault::Kind(_))))
-    )
+    match verdict {
+        Answer::Refused(refusal) => is_by_type(refusal),
+        _ => false,
+    }
+}
+
+fn is_by_type(refusal: &Refusal) -> bool {
+    match refusal {
+        Refusal::Check(CheckFault::Meta(fault)) => matches!(fault, MetaFault::Kind(_)),
+        _ => false,
+    }
 }
 
 /// Says how many were found.
