@@ -37,14 +37,15 @@ pub(crate) fn note_next<E: Write>(
 /// Whether `check` refuses the volume by the type of an object, as where something is under way in it.
 fn has_other_type(verdict: &Answer) -> bool {
     match verdict {
-        Answer::Refused(refusal) => is_by_type(refusal),
+        Answer::Refused(Refusal::Check(fault)) => is_of_type(fault),
         _ => false,
     }
 }
 
-fn is_by_type(refusal: &Refusal) -> bool {
-    match refusal {
-        Refusal::Check(CheckFault::Meta(fault)) => matches!(fault, MetaFault::Kind(_)),
+/// Whether the fault is the type of an object of the metadata.
+fn is_of_type(fault: &CheckFault) -> bool {
+    match fault {
+        CheckFault::Meta(fault) => matches!(fault, MetaFault::Kind(_)),
         _ => false,
     }
 }
