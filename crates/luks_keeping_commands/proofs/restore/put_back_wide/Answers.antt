@@ -42,7 +42,7 @@ returns-in-Err-Read-Head-clause-answers g c =
     let d : Pair = pair_of g.D.Device.size g.D.Device.bytes g.D.Device.failed c.args.backup.now c.read_wide_header.new.device c.args.volume.now c.args.volume.now in
     let inner = turned {b = c.in-Err-Read-Head.field-0-0} c.in-Err-Read-Head.field-0-0-is refl in
     let counted = c.in-Err-Read-Head.ensures.count ∙ ap (λ f. count_after (is_wide_read_failure f) (g.D.Device.failed c.args.backup.now)) c.in-Err-Read-Head.field-0-is
-        ∙ ap (λ f. count_after (is_read_failure f) (g.D.Device.failed c.args.backup.now)) inner in
+    ∙ ap (λ f. count_after (is_read_failure f) (g.D.Device.failed c.args.backup.now)) inner in
     subst (IsPutBackAnswer g.D.Device.tells c.args.restoring.now d) (sym c.refused_backup-in-Err-Read-Head.ensures)
     (put_narrow g.D.Device.tells c.args.restoring.now d c.args.fault (counted, refl) (λ told. refl) c.requires.refused
     (λ told u. head_other v _ _ inner (subst (IsWideUnread v) c.in-Err-Read-Head.field-0-is (c.in-Err-Read-Head.ensures.refused told)) u))
@@ -53,7 +53,7 @@ returns-in-Err-Read-Meta-clause-answers g c =
     let d : Pair = pair_of g.D.Device.size g.D.Device.bytes g.D.Device.failed c.args.backup.now c.read_wide_header.new.device c.args.volume.now c.args.volume.now in
     let inner = turned {b = c.in-Err-Read-Meta.field-0-0} c.in-Err-Read-Meta.field-0-0-is refl in
     let counted = c.in-Err-Read-Meta.ensures.count ∙ ap (λ f. count_after (is_wide_read_failure f) (g.D.Device.failed c.args.backup.now)) c.in-Err-Read-Meta.field-0-is
-        ∙ ap (λ f. count_after (is_read_failure f) (g.D.Device.failed c.args.backup.now)) inner in
+    ∙ ap (λ f. count_after (is_read_failure f) (g.D.Device.failed c.args.backup.now)) inner in
     subst (IsPutBackAnswer g.D.Device.tells c.args.restoring.now d) (sym c.refused_backup-in-Err-Read-Meta.ensures)
     (put_narrow g.D.Device.tells c.args.restoring.now d c.args.fault (counted, refl) (λ told. refl) c.requires.refused
     (λ told u. meta_other v _ _ inner (subst (IsWideUnread v) c.in-Err-Read-Meta.field-0-is (c.in-Err-Read-Meta.ensures.refused told)) u))
