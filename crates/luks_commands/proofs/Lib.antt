@@ -10,6 +10,7 @@ pub mod KeyFacts
 pub mod NotUnderway
 pub mod OpenFacts
 pub mod StandingFacts
+pub mod UnderwayFacts
 mod ShowFacts
 mod SearchFacts
 pub mod ReencryptionFacts

@@ -7,6 +7,7 @@ pub mod Checked
 pub mod UnderwayTexts
 pub mod Answer
 pub mod Lost
+pub mod UnderwayAnswers
 pub mod Beside
 pub mod CheckAnswers
 pub mod Chosen
@@ -16,5 +17,6 @@ pub mod KeyAnswers
 pub mod FormatAnswers
 pub mod Standing
 pub mod Turns
+pub mod UnderwayShown
 pub mod ShowAnswers
 pub mod Reencrypting

@@ -150,6 +150,10 @@ The header names the memory of Argon2, 1024 MiB for most volumes, and anybody
 may have written it: so none is taken but by --memory. Standard error says how
 much a keyslot takes that was refused.
 
+Of a volume in the midst of a reencryption standard error says of each keyslot
+that opens which key it gives, the old one or the new one, and where none gives
+one of them: cryptsetup, which asks for both by one passphrase, fails then.
+
 With --key no keyslot is tried: FILE is a volume key, all its bytes, and is
 compared with the digest that the header has of its key; of LUKS2 with that of
 segment 0, or by --digest with another, and standard error names it.
@@ -161,8 +165,9 @@ Prints one line:
   key matches           the key is the volume's
   key does not match    it is another
   refused FAULT         why it can't be tried, as Passphrase (the file is too
-                        long), SlotFree, NoSuchSlot, Argon2, Cipher, Hash,
-                        NoSuchDigest or KeyLength (of another length)
+                        long), SlotFree, NoSuchSlot, NoKey (a reencryption's
+                        own), Argon2, Cipher, Hash, NoSuchDigest or
+                        KeyLength (of another length)
   device fault          a file can't be read
   no memory             memory was refused; of Argon2 standard error says how
                         much was asked for
