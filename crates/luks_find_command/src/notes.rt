@@ -36,10 +36,18 @@ pub(crate) fn note_next<E: Write>(
 
 /// Whether `check` refuses the volume by the type of an object, as where something is under way in it.
 fn has_other_type(verdict: &Answer) -> bool {
-    matches!(
-        verdict,
-        Answer::Refused(Refusal::Check(CheckFault::Meta(MetaFault::Kind(_))))
-    )
+    match verdict {
+        Answer::Refused(Refusal::Check(fault)) => is_of_type(fault),
+        _ => false,
+    }
+}
+
+/// Whether the fault is the type of an object of the metadata.
+fn is_of_type(fault: &CheckFault) -> bool {
+    match fault {
+        CheckFault::Meta(fault) => matches!(fault, MetaFault::Kind(_)),
+        _ => false,
+    }
 }
 
 /// Says how many were found.

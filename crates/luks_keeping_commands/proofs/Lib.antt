@@ -5,3 +5,5 @@ pub mod RestoreFacts
 pub mod DifferenceFacts
 pub mod KeyFacts
 pub mod KeptFacts
+pub mod CompareFacts
+mod UseFacts

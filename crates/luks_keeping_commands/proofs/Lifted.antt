@@ -1,7 +1,8 @@
 -- What is said of two devices after calls that changed nothing of them is said of them before.
-use Rattle.std.proofs.Common.{◌≡◌, ℕ, List, sym, subst, ◌∙◌}
-use Rattle.luks_writing.specs.TwoDevices.{IsOneFailure}
-use Rattle.luks_keeping_commands.specs.TwoFiles.{NoneFailed, Pair}
+use Rattle.std.proofs.Common.{◌≡◌, ℕ, List, Bool, true, false, refl, sym, subst, ◌∙◌}
+use Rattle.std.proofs.lemmas.Bool.{true≢false}
+use Rattle.luks_writing.specs.TwoDevices.{CountsAfter, IsOneFailure}
+use Rattle.luks_keeping_commands.specs.TwoFiles.{pair_of, NoneFailed, Pair}
 
 -- a pair before such calls, and after them
 pub record IsBefore (tells : Type 0) (first then : Pair) : Type 0 where
@@ -37,3 +38,41 @@ module _ (tells : Type 0) (first then : Pair) (x : IsBefore tells first then) wh
       (subst (λ (n : ℕ). IsOneFailure then.source_before n first.before first.after) x.source_after
       (subst (λ (n : ℕ). IsOneFailure then.source_before then.source_after n first.after) x.before
       (subst (λ (n : ℕ). IsOneFailure then.source_before then.source_after then.before n) x.after f)))
+
+-- a pair of devices before such calls of both
+pub after_both : {D : Type 0} (tells : Type 0) (size : D → ℕ) (bytes : D → List ℕ) (failed : D → ℕ) (source later source_new old mid new : D)
+    → (tells → bytes later ≡ bytes source) → failed later ≡ failed source → (tells → bytes mid ≡ bytes old) → size mid ≡ size old → failed mid ≡ failed old
+    → IsBefore tells (pair_of size bytes failed source source_new old new) (pair_of size bytes failed later source_new mid new)
+after_both {D} tells size bytes failed source later source_new old mid new one counted two long again = record {
+  source = one;
+  old = two;
+  total = long;
+  source_before = counted;
+  before = again;
+  new = refl;
+  source_after = refl;
+  after = refl;
+}
+
+-- and of the source alone
+pub after_source : {D : Type 0} (tells : Type 0) (size : D → ℕ) (bytes : D → List ℕ) (failed : D → ℕ) (source later source_new old new : D)
+    → (tells → bytes later ≡ bytes source) → failed later ≡ failed source
+    → IsBefore tells (pair_of size bytes failed source source_new old new) (pair_of size bytes failed later source_new old new)
+after_source {D} tells size bytes failed source later source_new old new one counted =
+    after_both tells size bytes failed source later source_new old old new one counted (λ t. refl) refl refl
+
+-- and of the other
+pub after_other : {D : Type 0} (tells : Type 0) (size : D → ℕ) (bytes : D → List ℕ) (failed : D → ℕ) (source source_new old mid new : D)
+    → (tells → bytes mid ≡ bytes old) → size mid ≡ size old → failed mid ≡ failed old
+    → IsBefore tells (pair_of size bytes failed source source_new old new) (pair_of size bytes failed source source_new mid new)
+after_other {D} tells size bytes failed source source_new old mid new two long again =
+    after_both tells size bytes failed source source source_new old mid new (λ t. refl) refl two long again
+
+-- no call failed where the fault is no device's
+pub counted_own : (b : Bool) (s t u w : ℕ) → b ≡ false → CountsAfter b s t u w → (t ≡ s) × (w ≡ u)
+counted_own true s t u w own count = absurd (true≢false own)
+counted_own false s t u w own count = count
+
+-- what equals the first of two equals the second
+pub turned : {A : Type 0} {a b c : A} → a ≡ c → a ≡ b → b ≡ c
+turned x y = sym y ∙ x

@@ -1,5 +1,5 @@
 //! The command `backup`.
-ghost use Rattle.std.specs.Prelude.{◌≡◌, ◌≢◌, ◌↔◌, ◌+◌, ◌<◌, ◌^◌, Err, IfErr, IsTrue};
+ghost use Rattle.std.specs.Prelude.{◌≡◌, ◌≢◌, ◌↔◌, ◌+◌, ◌<◌, ◌^◌, Err, IfErr, IsTrue, false};
 ghost use Rattle.std.specs.Result.{ForOk};
 ghost use Rattle.luks_area.specs.Device.{IsSettled, IsUnchanged};
 ghost use Rattle.luks_commands.specs.Answer.{answer_status, backup_fault_answer};
@@ -14,10 +14,10 @@ ghost use Rattle.luks_wide_reading.specs.Headers.{IsUnderwayCopy};
 ghost use Rattle.luks_keeping_commands.specs.BackingUp.{AnswersBackup, IsMadeAnswer, IsRescueAnswer, IsUnderwayMade, IsUnmadeAnswer, KeepsRest};
 ghost use Rattle.luks_keeping_commands.specs.TwoFiles.{pair_of};
 
+use crate::underway::{note_moment, underway_answer};
 use luks_commands::{
     Answer, InputFault, Inputs, Reason, Refusal, Status, are_one_file, device_fault, unread,
 };
-use crate::underway::{note_moment, underway_answer};
 use luks_keeping::{BackupFault, backup, backup_length, rescue};
 use luks_reading::{CheckFault, Data, Device, MetaFault, ReadFault};
 use luks_request::BackingUp;
@@ -225,10 +225,12 @@ fn back_up_copy<D: Device, E: Write>(
     ensures answers { IsUnderwayMade D.tells (pair_of D.size D.bytes D.failed
         volume.old volume.new target.old target.new) result }
 {
-    let _ = note_moment(&copy.meta, name, err);
     let before = volume.failures();
     match back_up_underway(volume, copy, target) {
-        Ok(()) => Answer::Done(None),
+        Ok(()) => {
+            let _ = note_moment(&copy.meta, name, err);
+            Answer::Done(None)
+        }
         Err(fault) if volume.failures() != before => not_kept(
             fault,
             name,

@@ -168,7 +168,7 @@ fn compare_copy<D: Device, E: Write>(
         backup.old backup.new volume.old volume.new) result }
 {
     match read_wide_header(alloc, volume) {
-        Ok(_) => compare_states(backup, copy, volume, name, comparing, err),
+        Ok(_header) => compare_states(backup, copy, volume, name, comparing, err),
         Err(WideReadFault::Underway { fault, .. }) => underway_answer(fault),
         Err(WideReadFault::Read(fault)) => refused(CheckFault::from(fault), name, err),
     }
@@ -221,9 +221,7 @@ fn compare_moments<D: Device>(
 {
     match standing_of(backup, volume)? {
         Standing::Same => Ok(Answer::Compared(compare_underway(backup, copy, volume)?)),
-        Standing::Progressed => Ok(Answer::Refused(Refusal::Underway(
-            UnderwayRefusal::Progressed,
-        ))),
+        Standing::Progressed => Ok(Answer::Refused(Refusal::Underway(UnderwayRefusal::Progressed))),
         Standing::Another | Standing::Nothing => Ok(Answer::Refused(Refusal::Restore(
             RestoreFault::OtherVolume,
         ))),

@@ -5,7 +5,7 @@ use luks_reading::OpenFault;
 
 /// Why no key is opened.
 #[derive(Clone, Copy, Drop)]
-pub(crate) enum KeyRefusal {
+pub enum KeyRefusal {
     /// What `open` answers of any volume.
     Open(OpenFault),
     /// Something is under way in the metadata.

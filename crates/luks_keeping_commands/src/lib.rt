@@ -15,4 +15,5 @@ pub mod token;
 mod underway;
 mod volume_use;
 
+pub use key_refusal::KeyRefusal;
 pub use made_file::{MakesFile, Unmade};

@@ -4,7 +4,7 @@ ghost use Rattle.std.specs.Io.KnownBytes.{Appends};
 ghost use Rattle.luks_commands.specs.declared.answers.Answer.TheVariants.{Refused as IsRefused};
 ghost use Rattle.luks_commands.specs.declared.answers.Refusal.TheVariants.{Underway as ByUnderway};
 ghost use Rattle.luks_commands.specs.declared.underway_refusal.UnderwayRefusal.TheVariants.{Metadata as ByMetadata};
-ghost use Rattle.luks_keeping_commands.specs.UnderwayTexts.{IsMomentSaid};
+ghost use Rattle.luks_keeping_commands.specs.UnderwayTexts.{IsMomentSaid, moment_line};
 ghost use Rattle.luks_commands.specs.Answer.{restore_fault_answer};
 ghost use Rattle.luks_keeping.specs.RestoreFaults.{checked_restore};
 ghost use Rattle.luks_wider.specs.Underways.{content};
@@ -34,9 +34,16 @@ pub(crate) fn note_moment<E: Write>(meta: &Underway, volume: &str, err: &mut E) 
     ensures { OnOk result ((text : List ℕ) × IsMomentSaid (content meta.now) volume.now text
         × Appends (E.contents err.old) (E.contents err.new) text) }
 {
-    if meta.reencryption().is_none() {
+    let Some(slot) = meta.reencryption() else {
         return Ok(());
-    }
+    };
+    say_moment(volume, err)
+}
+
+fn say_moment<E: Write>(volume: &str, err: &mut E) -> io::Result<()>
+    ensures { OnOk result
+        (Appends (E.contents err.old) (E.contents err.new) (moment_line volume.now)) }
+{
     writeln!(
         err,
         "luks: {volume}: a reencryption is under way: the backup is of this moment, and once that went on, restoring it destroys data"

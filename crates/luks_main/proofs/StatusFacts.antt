@@ -94,6 +94,7 @@ memory_ends (command.Check payload) = refl
 memory_ends (command.Show form.Lines) = refl
 memory_ends (command.Show form.All) = refl
 memory_ends (command.Show form.Map) = refl
+memory_ends (command.Show form.Tables) = refl
 memory_ends (command.Show form.Tokens) = refl
 memory_ends (command.Show (form.Token n)) = refl
 memory_ends (command.Show form.Json) = refl

@@ -16,8 +16,17 @@ pub(crate) fn tell_readable<D: Device>(
 )
     requires { D.failed device.old + 1 < 2 ^ 64 }
 {
-    if let Ok(WideHeader::Underway(copy)) = read_wide_header(alloc, device) {
-        note_readable(&copy.meta, file, notes);
+    match read_wide_header(alloc, device) {
+        Ok(header) => note_header(&header, file, notes),
+        Err(_) => {}
+    }
+}
+
+/// The same of the volume with this header.
+fn note_header(header: &WideHeader, file: &str, notes: &mut Vec<u8>) {
+    match header {
+        WideHeader::Underway(copy) => note_readable(&copy.meta, file, notes),
+        WideHeader::Narrow(_) => {}
     }
 }
 
