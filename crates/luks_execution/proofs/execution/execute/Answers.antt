@@ -5,9 +5,6 @@ use Rattle.luks_header_commands.proofs.TryingFacts.{rebuild_holds}
 use Rattle.luks_keeping_commands.proofs.RestoreFacts.{restore_holds}
 use Rattle.luks_execution.proofs.execution.execute.Goals as goal
 
-pub returns-in-Show-clause-executes : goal.returns-in-Show-clause-executes
-returns-in-Show-clause-executes g c = rw c.in-Show.is (record { kept = c.run-in-Show.ensures.answers })
-
 pub returns-in-Open-clause-executes : goal.returns-in-Open-clause-executes
 returns-in-Open-clause-executes g c = rw c.in-Open.is (record { kept = c.run-in-Open.ensures.answers })
 
