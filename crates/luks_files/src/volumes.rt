@@ -15,7 +15,7 @@ use luks_guarded_files::{
     open_locked,
 };
 use luks_keeping::{BackupFault, backup_length};
-use luks_reading::ReadFault;
+use luks_reading::{CheckFault, MetaFault, ReadFault};
 use luks_request::{BackingUp, Command, Line, Place};
 use luks_wide_keeping::underway_length;
 use luks_wide_reading::{WideHeader, WideReadFault, read_wide_header};
@@ -256,7 +256,7 @@ fn length_of_backup<R: AllocGlobal + Clock + Files<File = File>>(
     match backup_length(rt.alloc(), &mut device, backing_up.payload) {
         Ok(length) => Ok(length),
         Err(BackupFault::Memory) => Err(InputFault::NoMemory),
-        Err(BackupFault::NotAccepted(_)) if !backing_up.rescue => {
+        Err(BackupFault::NotAccepted(CheckFault::Meta(_))) if !backing_up.rescue => {
             length_under_way(rt.alloc(), &mut device)
         }
         Err(_) => Err(InputFault::Absent),
@@ -268,11 +268,13 @@ fn length_under_way(alloc: Global, device: &mut Volume) -> Result<u64, InputFaul
     requires { cached_failures device.old + 1 < 2 ^ 64 }
 {
     match read_wide_header(alloc, device) {
-        Ok(WideHeader::Underway(copy)) => {
-            underway_length(device, &copy).map_err(|_| InputFault::Absent)
-        }
+        Ok(WideHeader::Underway(copy)) => match underway_length(device, &copy) {
+            Ok(length) => Ok(length),
+            Err(_) => Err(InputFault::Absent),
+        },
+        Ok(WideHeader::Narrow(_)) => Err(InputFault::Absent),
         Err(WideReadFault::Read(ReadFault::Memory)) => Err(InputFault::NoMemory),
-        _ => Err(InputFault::Absent),
+        Err(_) => Err(InputFault::Absent),
     }
 }
 

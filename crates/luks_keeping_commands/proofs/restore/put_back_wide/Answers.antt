@@ -7,8 +7,8 @@ use Rattle.luks_commands.proofs.NotUnderway.{read_narrow}
 use Rattle.luks_keeping_commands.specs.Restoring.{IsPutBackAnswer}
 use Rattle.luks_keeping_commands.specs.RestoringUnderway.{KeepsUnderway}
 use Rattle.luks_keeping_commands.specs.TwoFiles.{pair_of, Pair}
-use Rattle.luks_keeping_commands.proofs.BackupFacts.{unread_other}
-use Rattle.luks_keeping_commands.proofs.Lifted.{after_source}
+use Rattle.luks_keeping_commands.proofs.BackupFacts.{head_other, meta_other}
+use Rattle.luks_keeping_commands.proofs.Lifted.{after_source, turned}
 use Rattle.luks_keeping_commands.proofs.RestoreFacts.{keeps_underway, put_narrow, underway_after}
 use Rattle.luks_keeping_commands.proofs.restore.put_back_wide.Goals as goal
 
@@ -40,18 +40,20 @@ pub returns-in-Err-Read-Head-clause-answers : goal.returns-in-Err-Read-Head-clau
 returns-in-Err-Read-Head-clause-answers g c =
     let v = g.D.Device.bytes c.args.backup.now in
     let d : Pair = pair_of g.D.Device.size g.D.Device.bytes g.D.Device.failed c.args.backup.now c.read_wide_header.new.device c.args.volume.now c.args.volume.now in
+    let inner = turned {b = c.in-Err-Read-Head.field-0-0} c.in-Err-Read-Head.field-0-0-is refl in
     let counted = c.in-Err-Read-Head.ensures.count ∙ ap (λ f. count_after (is_wide_read_failure f) (g.D.Device.failed c.args.backup.now)) c.in-Err-Read-Head.field-0-is
-    ∙ ap (λ f. count_after (is_read_failure f) (g.D.Device.failed c.args.backup.now)) c.in-Err-Read-Head.field-0-0-is in
+    ∙ ap (λ f. count_after (is_read_failure f) (g.D.Device.failed c.args.backup.now)) inner in
     subst (IsPutBackAnswer g.D.Device.tells c.args.restoring.now d) (sym c.refused_backup-in-Err-Read-Head.ensures)
     (put_narrow g.D.Device.tells c.args.restoring.now d c.args.fault (counted, refl) (λ told. refl) c.requires.refused
-    (λ told u. let at = c.in-Err-Read-Head.field-0-0-is in unread_other v _ (subst (IsWideUnread v) c.in-Err-Read-Head.field-0-is (c.in-Err-Read-Head.ensures.refused told)) (λ e. cc) (λ e. cc) u))
+    (λ told u. head_other v _ _ inner (subst (IsWideUnread v) c.in-Err-Read-Head.field-0-is (c.in-Err-Read-Head.ensures.refused told)) u))
 
 pub returns-in-Err-Read-Meta-clause-answers : goal.returns-in-Err-Read-Meta-clause-answers
 returns-in-Err-Read-Meta-clause-answers g c =
     let v = g.D.Device.bytes c.args.backup.now in
     let d : Pair = pair_of g.D.Device.size g.D.Device.bytes g.D.Device.failed c.args.backup.now c.read_wide_header.new.device c.args.volume.now c.args.volume.now in
+    let inner = turned {b = c.in-Err-Read-Meta.field-0-0} c.in-Err-Read-Meta.field-0-0-is refl in
     let counted = c.in-Err-Read-Meta.ensures.count ∙ ap (λ f. count_after (is_wide_read_failure f) (g.D.Device.failed c.args.backup.now)) c.in-Err-Read-Meta.field-0-is
-    ∙ ap (λ f. count_after (is_read_failure f) (g.D.Device.failed c.args.backup.now)) c.in-Err-Read-Meta.field-0-0-is in
+    ∙ ap (λ f. count_after (is_read_failure f) (g.D.Device.failed c.args.backup.now)) inner in
     subst (IsPutBackAnswer g.D.Device.tells c.args.restoring.now d) (sym c.refused_backup-in-Err-Read-Meta.ensures)
     (put_narrow g.D.Device.tells c.args.restoring.now d c.args.fault (counted, refl) (λ told. refl) c.requires.refused
-    (λ told u. let at = c.in-Err-Read-Meta.field-0-0-is in unread_other v _ (subst (IsWideUnread v) c.in-Err-Read-Meta.field-0-is (c.in-Err-Read-Meta.ensures.refused told)) (λ e. cc) (λ e. cc) u))
+    (λ told u. meta_other v _ _ inner (subst (IsWideUnread v) c.in-Err-Read-Meta.field-0-is (c.in-Err-Read-Meta.ensures.refused told)) u))
