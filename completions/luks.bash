@@ -4,7 +4,7 @@ _luks() {
     # each command with its options
     local -A options=(
         [check]="--detached --json --offset --length --quiet --help"
-        [show]="--all --map --json --offset --length --quiet --help"
+        [show]="--all --map --tables --json --offset --length --quiet --help"
         [open]="--passphrase --passphrase-line --slot --memory --key --digest --older --json --offset --length --quiet --help"
         [add]="--slot --passphrase --passphrase-line --key --new --new-line --random --to --iterations --kdf --kdf-memory --passes --lanes --iter-time --memory --older --over --detached --offset --length --quiet --help"
         [change]="--slot --passphrase --passphrase-line --key --new --new-line --random --iterations --kdf --kdf-memory --passes --lanes --iter-time --memory --older --over --detached --offset --length --quiet --help"

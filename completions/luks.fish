@@ -16,6 +16,7 @@ complete -c luks -n __fish_use_subcommand -a show -d "Lists what a volume's head
 complete -c luks -n '__fish_seen_subcommand_from show' -F
 complete -c luks -n '__fish_seen_subcommand_from show' -l all -d 'With costs, salts and encryption, LUKS1 in bytes too'
 complete -c luks -n '__fish_seen_subcommand_from show' -l map -d 'A map of the areas, in the order of their places'
+complete -c luks -n '__fish_seen_subcommand_from show' -l tables -d 'Lines for dmsetup, of a volume under reencryption'
 complete -c luks -n '__fish_seen_subcommand_from show' -l json -d 'One JSON object in place of the lines, for scripts'
 complete -c luks -n '__fish_seen_subcommand_from show' -l offset -x -d 'The byte of the file where the volume begins'
 complete -c luks -n '__fish_seen_subcommand_from show' -l length -x -d 'How many bytes the volume has'

@@ -22,11 +22,11 @@ TRACED = ("open,openat,read,lseek,write,pwrite64,writev,pwritev,pwritev2,sendfil
 
 # --- what a command writes
 
-def recorded(folder, line):
-    """What the command writes to V, as a list for each time between two syncs; a piece is a place and its bytes. V keeps its length."""
+def recorded(folder, line, most=1048576):
+    """What the command writes to V, at most so many bytes at once, as a list for each time between two syncs; a piece is a place and its bytes. V keeps its length."""
     log, volume = os.path.join(folder, "log"), os.path.join(folder, "V")
     length = os.path.getsize(volume)
-    words = ["strace", "-f", "-xx", "-s", "1048576", "-e", "trace=" + TRACED, "-P", volume, "-o", log, *line.replace(" V", " " + volume).split()]
+    words = ["strace", "-f", "-xx", "-s", str(most), "-e", "trace=" + TRACED, "-P", volume, "-o", log, *line.replace(" V", " " + volume).split()]
     done = ran(words, folder, text=True)
     if done.returncode:
         sys.exit(f"cuts: {line}: status {done.returncode}\n{done.stdout}{done.stderr}")

@@ -72,6 +72,10 @@ class Number(enum.IntEnum):
     NO_FREE_TOKEN = 61
     UNREADABLE_TOKEN = 62
     BAD_UUID = 63
+    UNDER_WAY = 64
+    NO_KEY = 65
+    PROGRESSED = 66
+    NOT_UNDER_WAY = 67
     USAGE = 101
     BEYOND = 102
     MEMORY = 103

@@ -11,6 +11,7 @@ that the area is its other one.
 """
 import reader
 import rebuilding1
+import underway
 from reader import Fault
 
 SECTOR = 512
@@ -40,11 +41,12 @@ def explained(disk, start, size, at):
 
 
 def whole_metadata(disk, start, size, at):
-    """Whether the copy of this size at this place of the volume lies inside, and its JSON area has no fault."""
+    """Whether the copy of this size at this place of the volume lies inside, and its JSON area has no fault, by the rules of what is under way where something
+    is."""
     if start + at + size > len(disk):
         return False
     try:
-        reader.metadata({"size": size, "json": disk[start + at + 4096:start + at + size]})
+        underway.wider({"size": size, "json": disk[start + at + 4096:start + at + size]})
     except Fault:
         return False
     return True

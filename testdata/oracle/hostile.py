@@ -8,6 +8,7 @@ import struct
 import edits
 import images
 import reader
+import underway
 from equations import HASHES, SECTOR, pbkdf2, round_up, sealed_area
 
 MASK = (1 << 64) - 1
@@ -280,7 +281,7 @@ HEADER = (("check",), ("check", "--detached"), ("show",))
 def answer(volume, words):
     if words[0] == "check":
         return reader.check(volume, len(words) > 1)
-    return reader.show(volume) if words[0] == "show" else reader.open_volume(volume, *words[1:])[:2]
+    return underway.show(volume) if words[0] == "show" else underway.open_volume(volume, *words[1:])[:2]
 
 
 def cut_answers(volume, lengths):
@@ -331,12 +332,38 @@ def rewritten2():
                 yield (at, bits, words), changed, words
 
 
+def first_under_way():
+    """The LUKS2 volume whose key becomes another: keyslots 0 and 1 of one stripe give the old key and the new one, and open by `one`."""
+    key, salt = images.counting(64), b"\x11" * 32
+    value = images.reencryption()
+    for n in range(2):
+        value["keyslots"][str(n)] = images.keyslot(salt=salt, offset=32768 + 4096 * n, stripes=1)
+        value["digests"][str(n)] |= {"digest": images.b64(pbkdf2("sha256", key, bytes([0x22 + n]) * 32, 1000, 32)), "salt": images.b64(bytes([0x22 + n]) * 32)}
+    value["keyslots"]["2"]["area"] |= {"offset": "40960", "size": "8192"}
+    value["config"]["keyslots_size"] = "16384"
+    value["tokens"] = {"5": {"keyslots": ["1"], "type": "t"}}
+    text = images.compact(value)
+    area = sealed_area("sha256", pbkdf2("sha256", b"one", salt, 1000, 64), key, b"")
+    return images.volume(LENGTH2, *images.copies(text), *((32768 + 4096 * n, area[:64]) for n in range(2))), text
+
+
+def rewritten_under_way():
+    """Each byte of its text, in both copies at once, with new checksums."""
+    volume, text = first_under_way()
+    for at in range(4096, 4096 + len(text) + 1):
+        for bits in (1, 2, 128):
+            changed = renewed(renewed(flipped(flipped(volume, at, bits), 16384 + at, bits), 0), 16384)
+            for words in (("check",), ("show",), *((OPEN,) if bits == 1 else ())):
+                yield (at, bits, words), changed, words
+
+
 KINDS = {
     "cuts1": lambda: cut_answers(first1()[0], cuts1()),
     "cuts2": lambda: cut_answers(first2()[0], cuts2()),
     "changed1": changed1,
     "damaged2": damaged2,
     "rewritten2": rewritten2,
+    "under_way": rewritten_under_way,
 }
 
 

@@ -103,6 +103,38 @@ def metadata(slots, hash_name="sha256", iterations=1000, digest=bytes(32), diges
             "tokens": {}}
 
 
+# The metadata of something that is under way.
+
+OPAL_SIZE = 33554432
+
+
+def opal(kind):
+    """A volume on a range of 32 MiB of a disk that encrypts itself, behind a header of 16 MiB."""
+    value = metadata({"0": keyslot(key_size=32 if kind == "hw-opal" else 96)})
+    own = {"type": kind, "offset": "16777216", "size": str(OPAL_SIZE), "opal_segment_number": 1, "opal_key_size": 32, "opal_segment_size": str(OPAL_SIZE)}
+    value["segments"]["0"] = own | ({"iv_tweak": "0", "encryption": "aes-xts-plain64", "sector_size": 512} if kind == "hw-opal-crypt" else {})
+    value["config"]["requirements"] = {"mandatory": ["opal"]}
+    return value
+
+
+def reencryption(area=None):
+    """A volume whose key becomes another: one part is of the new key, one in hand, the rest of the old one."""
+    crypt = {"type": "crypt", "encryption": "aes-xts-plain64", "sector_size": 512}
+    value = metadata({"0": keyslot(), "1": keyslot(offset=290816)})
+    value["keyslots"]["2"] = {"type": "reencrypt", "key_size": 1, "mode": "reencrypt", "direction": "forward", "priority": 0,
+                              "area": {"offset": "548864", "size": "16228352", **(area or {"type": "checksum", "hash": "sha256", "sector_size": 4096})}}
+    value["segments"] = {"0": crypt | {"offset": "16777216", "size": "1048576", "iv_tweak": "0"},
+                         "1": crypt | {"offset": "17825792", "size": "1048576", "iv_tweak": "2048", "flags": ["in-reencryption"]},
+                         "2": crypt | {"offset": "18874368", "size": "dynamic", "iv_tweak": "4096"},
+                         "3": crypt | {"offset": "16777216", "size": "dynamic", "iv_tweak": "0", "flags": ["backup-previous"]},
+                         "4": crypt | {"offset": "16777216", "size": "dynamic", "iv_tweak": "0", "flags": ["backup-final"]}}
+    digest = value["digests"]["0"]
+    value["digests"] = {"0": digest | {"keyslots": ["0"], "segments": ["1", "2", "3"]}, "1": digest | {"keyslots": ["1"], "segments": ["0", "1", "4"]},
+                        "2": digest | {"keyslots": ["2"], "segments": []}}
+    value["config"]["requirements"] = {"mandatory": ["online-reencrypt-v2"]}
+    return value
+
+
 # The volumes by name.
 
 SAMPLE_LENGTH = 2097664

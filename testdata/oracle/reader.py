@@ -631,8 +631,19 @@ def opened(plan, passphrase):
     return key if given == plan[-1][2] else None
 
 
+# what was derived once, by all that it is derived from
+DERIVED = {}
+
+
 def candidate(plan, passphrase):
     """What the stripes hold under the passphrase, and what that gives in place of the digest."""
+    of = hashlib.sha256(plan[0]).digest(), repr(plan[1:]), bytes(passphrase)
+    if of not in DERIVED:
+        DERIVED[of] = derived(plan, passphrase)
+    return DERIVED[of]
+
+
+def derived(plan, passphrase):
     area, cipher, cipher_key, length, stripes, hashes, (salt, cost), (digest_salt, digest_iterations, digest) = plan
     slot_key = argon2(cost, passphrase, salt, cipher_key) if isinstance(cost, dict) else pbkdf2(hashes[0], passphrase, salt, cost, cipher_key)
     key = opened_area(hashes[1], slot_key, area, length, stripes, cipher)
@@ -644,10 +655,11 @@ def distance(plan, passphrase):
     return (int.from_bytes(candidate(plan, passphrase)[1], "big") ^ int.from_bytes(plan[-1][2], "big")).bit_count()
 
 
-def open_volume(volume, passphrase, slot=None, memory=0, older=False):
-    """(status, line) and the key where one was found; Argon2 may take so many KiB, and `older` accepts ciphers and hashes of older disks."""
+def open_volume(volume, passphrase, slot=None, memory=0, older=False, by=None):
+    """(status, line) and the key where one was found; Argon2 may take so many KiB, and `older` accepts ciphers and hashes of older disks. `by` reads the header,
+    `openable` where it isn't given."""
     try:
-        return open_found(volume, passphrase, slot, memory, older)
+        return open_found(volume, passphrase, slot, memory, older, by)
     except Fault as fault:
         return 1, f"refused {fault}\n", None
 
@@ -665,8 +677,8 @@ def openable(volume, memory, older):
     return (lambda n: plan2(volume, value, n, memory, older)), (lambda n: str(n) in value["keyslots"]), order
 
 
-def open_found(volume, passphrase, slot, memory, older):
-    plan, exists, order = openable(volume, memory, older)
+def open_found(volume, passphrase, slot, memory, older, by):
+    plan, exists, order = (by or openable)(volume, memory, older)
     if slot is not None:
         if not exists(slot):
             raise Fault("NoSuchSlot")
@@ -692,9 +704,9 @@ def unbound(volume, slot):
     return [] if bound else [f"luks: keyslot {slot}: its key is of no segment, so that it opens no data"]
 
 
-def almost_met(volume, passphrase, slot=None, memory=0, older=False):
+def almost_met(volume, passphrase, slot=None, memory=0, older=False, by=None):
     """What standard error says of the keyslot that is almost met, of a volume where the passphrase opens none that is tried; or nothing."""
-    plan, _, order = openable(volume, memory, older)
+    plan, _, order = (by or openable)(volume, memory, older)
     distances = []
     for n in order if slot is None else [slot]:
         try:

@@ -247,15 +247,22 @@ def show_all(volume):
     return reader.answer(lambda: shown(volume, True))
 
 
-def shown(volume, whole=False):
+def under_way(volume):
+    """The metadata of a volume in which something is under way, or none; the first fault of such a one."""
     chosen = reader.select(volume)
     if chosen == 1:
+        return None
+    reader.checked_uuid(chosen[0]["uuid"])
+    value = wider(chosen[0])
+    return value if is_under_way(value) else None
+
+
+def shown(volume, whole=False):
+    value = under_way(volume)
+    if value is None:
         return reader.shown(volume, whole)
-    copy, state = chosen
+    copy, state = reader.select(volume)
     uuid = reader.checked_uuid(copy["uuid"])
-    value = wider(copy)
-    if not is_under_way(value):
-        return reader.shown(volume, whole)
     text, names = reader.shown_text, reader.shown_list
     lines = ["luks2", f"uuid {text(uuid)}", f"label {text(copy['label'])}", *([f"subsystem {text(copy['subsystem'])}"] if whole else []),
              f"copies {state} seqid {copy['seqid']}", f"header-size {copy['size']} keyslots-size {value['config']['keyslots_size']}",
@@ -283,12 +290,12 @@ def shown(volume, whole=False):
 
 def show_map(volume):
     """The areas, as `reader.show_map` draws them, and the backups, which fill no gap and meet nothing."""
-    return reader.answer(lambda: (0, "".join(line + "\n" for line in map_lines(shown_map(volume), len(volume)))))
+    return reader.answer(lambda: reader.show_map(volume) if under_way(volume) is None else (0, "".join(line + "\n" for line in map_lines(shown_map(volume), len(volume)))))
 
 
 def shown_map(volume):
     copy, _ = reader.select(volume)
-    value, total = wider(copy), len(volume)
+    value, total = under_way(volume), len(volume)
     rows = [(total, 1, None, "end of the volume", "-"), (reader.region(copy, value)[1], 0, None, "end of the key areas", "-"),
             (0, 2, copy["size"], "header, copy 1", "#"), (copy["size"], 3, copy["size"], "header, copy 2", "#")]
     rows += [(start, 4 + n, length, f"keyslot {n}", "#") for n, slot in by_number(value["keyslots"]) for start, length in [reader.slot_area2(slot)]]
@@ -320,14 +327,11 @@ def show_json(volume):
 
 
 def shown_json(volume):
-    chosen = reader.select(volume)
-    if chosen == 1:
+    value = under_way(volume)
+    if value is None:
         return reader.shown_json(volume)
-    copy, state = chosen
+    copy, state = reader.select(volume)
     uuid = reader.checked_uuid(copy["uuid"])
-    value = wider(copy)
-    if not is_under_way(value):
-        return reader.shown_json(volume)
     config, numbers = value["config"], reader.numbers
     return {"version": 2, "uuid": uuid.decode(), "label": reader.text_or_bytes(copy["label"]), "subsystem": reader.text_or_bytes(copy["subsystem"]), "copies": state,
             "seqid": copy["seqid"], "sizes": {"header": copy["size"], "json": int(config["json_size"]), "keyslots": int(config["keyslots_size"])},
@@ -381,15 +385,123 @@ def said(value):
     return f"a reencryption is under way: {slot['mode']} {slot['direction']}, from {key(old)} to {key(new)}{at}"
 
 
-def open_slot(volume, passphrase, n):
-    """Whether keyslot `n` opens, and the key that it gives; the equations are those of the digest that names it."""
-    value = wider(reader.select(volume)[0])
-    slot = value["keyslots"].get(str(n))
-    if slot is None:
-        raise Fault("NoSuchSlot")
-    if slot["type"] == "reencrypt":
-        raise Fault("NoKey")
-    return reader.opened(reader.plan2(volume, value, n, 1 << 30), passphrase)
+def said_of(volume, name):
+    """What standard error says of a volume of this name in which something is under way; nothing of one that is refused."""
+    try:
+        value = under_way(volume)
+    except Fault:
+        return []
+    if value is None or not reencryptions(value):
+        return []
+    return [f"{name}: {said(value)}", f"{name}: cryptsetup repair or cryptsetup reencrypt --resume-only goes on with it"]
+
+
+# --- opening: the equations are those of the digest that names the keyslot
+
+def openable(volume, memory=0, older=False):
+    """As reader's: the plan of a keyslot, whether there is one of a number, and the order in which they are tried."""
+    value = under_way(volume)
+    if value is None:
+        return reader.openable(volume, memory, older)
+
+    def plan(n):
+        if value["keyslots"][str(n)]["type"] == "reencrypt":
+            raise Fault("NoKey")
+        return reader.plan2(volume, value, n, memory, older)
+
+    slots = [(it.get("priority", 1), n) for n, it in by_number(value["keyslots"]) if it["type"] == "luks2"]
+    return plan, (lambda n: str(n) in value["keyslots"]), [n for wanted in (2, 1) for priority, n in slots if priority == wanted]
+
+
+def open_volume(volume, passphrase, slot=None, memory=0, older=False):
+    return reader.open_volume(volume, passphrase, slot, memory, older, openable)
+
+
+GIVES = {"old": "the old key of the reencryption", "new": "the new key of the reencryption", "both": "the key of both sides of the reencryption",
+         "none": "the key of neither side of the reencryption"}
+
+
+def said_of_keys(volume, name, passphrase, first, memory=0, older=False, unread=()):
+    """What standard error says of a volume of which this keyslot opens: which key each gives that opens, and which none gives. Of the others those are tried
+    that are where none is named; those of `unread` can't be read."""
+    value = under_way(volume)
+    if value is None or not reencryptions(value):
+        return []
+    plan, _, order = openable(volume, memory, older)
+    opens, lines = [first], [f"keyslot {first}: it gives {GIVES[side_of_keyslot(value, first)]}"]
+    for n in sorted(set(order) - {first}):
+        try:
+            key = None if n in unread else reader.opened(plan(n), passphrase)
+        except Fault:
+            continue
+        if n in unread:
+            lines.append(f"{name}: keyslot {n} couldn't be read, and was passed over")
+        elif key is not None:
+            opens.append(n)
+            lines.append(f"keyslot {n}: it gives {GIVES[side_of_keyslot(value, n)]}")
+    given = {digest for n in opens for digest in naming(value, "keyslots", str(n))}
+    return lines + [f"no keyslot that opens gives the {which} key: cryptsetup reencrypt --resume-only asks for both by one passphrase, and fails"
+                    for which, digest in zip(("old", "new"), sides(value)) if digest is not None and digest not in given]
+
+
+MOST_MEMORY = (1 << 32) - 1
+
+
+def fault_of_slot(volume, n, memory, older):
+    """Why keyslot `n` can't be tried, or none."""
+    try:
+        openable(volume, memory, older)[0](n)
+        return None
+    except Fault as fault:
+        return str(fault)
+
+
+def said_of_refused(volume, n, memory=0, older=False):
+    """What standard error says would have a keyslot tried that is refused."""
+    kdf, lines = under_way(volume)["keyslots"][str(n)]["kdf"], []
+    if kdf["type"] != "pbkdf2":
+        mib = -(-kdf["memory"] // 1024)
+        if kdf["memory"] > memory and mib < 1 << 22 and not fault_of_slot(volume, n, kdf["memory"], True):
+            lines.append(f"keyslot {n} is derived by {kdf['type']}, which takes {mib} MiB of memory: --memory {mib} allows it")
+    if not older and fault_of_slot(volume, n, MOST_MEMORY, False) and not fault_of_slot(volume, n, MOST_MEMORY, True):
+        lines.append(f"keyslot {n} is of an older disk: --older allows it")
+    return lines
+
+
+def said_of_passed_over(volume, memory=0, older=False):
+    """What standard error says of the keyslots that weren't tried, where none is named and none opens."""
+    lines = []
+    for n, it in by_number(under_way(volume)["keyslots"]):
+        fault = None if it["type"] == "reencrypt" else "priority 0" if it.get("priority", 1) == 0 else fault_of_slot(volume, n, memory, older)
+        if fault:
+            lines.append(f"keyslot {n} was passed over: {fault}")
+            lines += said_of_refused(volume, n, memory, older) if fault != "priority 0" else []
+    return lines
+
+
+def said_of_opening(volume, name, passphrase, slot, status, line, memory=0, older=False):
+    """What standard error says behind this answer of a volume in which something is under way, but for how the passphrase ends."""
+    if under_way(volume) is None:
+        return []
+    if status == 0:
+        return said_of_keys(volume, name, passphrase, int(line.split()[1]), memory, older)
+    if line == "no slot opens\n":
+        return said_of_passed_over(volume, memory, older)
+    return said_of_refused(volume, slot, memory, older) if line in ("refused Cipher\n", "refused Hash\n", "refused KeySize\n", "refused Argon2\n") else []
+
+
+# --- the data
+
+def show_tables(volume):
+    return reader.answer(lambda: (0, "".join(line + "\n" for line in table(tabled(volume), len(volume)))))
+
+
+def tabled(volume):
+    value = under_way(volume)
+    if value is None:
+        reader.shown(volume)
+        raise Fault("NotUnderWay")
+    return value
 
 
 def table(value, end):

@@ -38,8 +38,8 @@ use Rattle.luks_keeping.specs.declared.restore_fault.RestoreFault.TheVariants as
 use Rattle.luks_reading.specs.FaultTexts.{check_fault_text}
 use Rattle.luks_c_answers.specs.Numbers.{backup_number, check_number, convert_number, edit_number, fault_number, key_number, number_printed, open_number, rebuild1_number, rebuild_number, restore_number}
 
--- that of a fault is 1 to 63
-fault_number_range : (f : Fault) → (1 ≤ fault_number f) × (fault_number f ≤ 63)
+-- that of a fault is 1 to 67
+fault_number_range : (f : Fault) → (1 ≤ fault_number f) × (fault_number f ≤ 67)
 fault_number_range fault.TooShort = (omega arith, omega arith)
 fault_number_range f = (omega arith, omega arith)
 

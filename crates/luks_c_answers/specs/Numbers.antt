@@ -97,6 +97,10 @@ fault_number fault.TokenTaken = 60
 fault_number fault.NoFreeToken = 61
 fault_number fault.UnreadableToken = 62
 fault_number fault.BadUuid = 63
+fault_number fault.UnderWay = 64
+fault_number fault.NoKey = 65
+fault_number fault.Progressed = 66
+fault_number fault.NotUnderWay = 67
 
 -- the fault of this number, if there is one
 abbrev pub fault_numbered : ℕ → Option Fault

@@ -122,6 +122,10 @@ fn number_of_call(fault: Fault) -> u32
         Fault::NoFreeToken => 61,
         Fault::UnreadableToken => 62,
         Fault::BadUuid => 63,
+        Fault::UnderWay => 64,
+        Fault::NoKey => 65,
+        Fault::Progressed => 66,
+        Fault::NotUnderWay => 67,
         _ => UNKNOWN,
     }
 }

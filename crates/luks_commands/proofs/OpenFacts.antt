@@ -6,17 +6,20 @@ use Rattle.luks_reading.specs.declared.open_fault.OpenFault.{OpenFault}
 use Rattle.luks_reading.specs.declared.open_fault.OpenFault.TheVariants.{Head, Meta, NoSuchSlot, SlotFree, Outside, Slot, Device, Memory}
 use Rattle.luks_reading.specs.declared.read_fault.ReadFault.{ReadFault}
 use Rattle.luks_reading.specs.declared.read_fault.ReadFault.TheVariants as reading
-use Rattle.luks_reading.specs.Answer.{opened_to, AnswerWithin as Gives, IsRefusedByWithin}
+use Rattle.luks_reading.specs.Answer.{opened_to, refused as refused_by, AnswerWithin as Gives, IsRefusedByWithin}
 use Rattle.luks_reading.specs.Conversions.{unread_opened}
 use Rattle.luks_reading.specs.Failures.{is_open_failure, is_read_failure}
-use Rattle.luks_reading.specs.Header.{NeedsMetadata}
+use Rattle.luks_reading.specs.Header.{IsUnread, NeedsMetadata}
 use Rattle.luks_reading.specs.Unlocking.{gives, locked, IsVolumeRefusedBy, UnlockAnswer, Unlocks}
+use Rattle.luks_reading.proofs.KeyslotAnswers.{unread_refused}
+use Rattle.luks_reading.proofs.VolumeAnswers.{unread_locked}
+use Rattle.luks2_header.proofs.ChoiceFacts.{choices_agree}
 use Rattle.luks_commands.specs.Answer.{open_fault_answer}
 use Rattle.luks_commands.specs.declared.answers.Answer.{Answer}
-use Rattle.luks_commands.specs.declared.answers.Answer.TheVariants.{Opens, NoneOpens, Refused, DeviceFault, NoMemory}
+use Rattle.luks_commands.specs.declared.answers.Answer.TheVariants.{Opens, Closed, NoneOpens, Refused, DeviceFault, NoMemory}
 use Rattle.luks_commands.specs.declared.answers.Refusal.TheVariants.{Open}
 use Rattle.luks_commands.specs.Searched.{Searches, UnlocksBeside, WithKey}
-use Rattle.luks_commands.specs.OpenAnswers.{any_answer, IsAnswerBeside, IsAnyAnswer, IsOneAnswer, one_answer}
+use Rattle.luks_commands.specs.OpenAnswers.{any_answer, IsAnswerBeside, IsAnyAnswer, IsOneAnswer, IsOpenAnswer, one_answer}
 
 -- a fault of the keyslot that is named
 one_fault : (tells : Type 0) (allowed : Allowed) (v : List ℕ) (n : ℕ) (p : List ℕ) (before after : ℕ) (f : OpenFault) → after ≡ count_after (is_open_failure f) before
@@ -101,3 +104,33 @@ answers_header tells is allowed v w p before after a same read = answered a
     answered DeviceFault (inr x) = inr (searched None x)
     answered NoMemory x = (x.0, λ t. subst NeedsMetadata (same t) (x.1 (now t)))
     answered b x = absurd x
+
+-- likewise where a keyslot is named
+answers_named : (tells : Type 0) (is : List ℕ → Type 0) (allowed : Allowed) (v w : List ℕ) (n : ℕ) (p : List ℕ) (before after : ℕ) (a : Answer) → (tells → w ≡ v) → (tells → is v)
+    → IsOneAnswer (tells × is w) allowed w n p before after a → IsOneAnswer tells allowed v n p before after a
+answers_named tells is allowed v w n p before after a same read = answered a
+  where
+    now : tells → tells × is w
+    now t = (t, subst is (sym (same t)) (read t))
+
+    answered : (b : Answer) → IsOneAnswer (tells × is w) allowed w n p before after b → IsOneAnswer tells allowed v n p before after b
+    answered (Opens m) x = (x.0, x.1, λ t. subst (λ u. (key : List ℕ) × Gives allowed u n p (opened_to (Some key))) (same t) (x.2 (now t)))
+    answered (Closed m) x = (x.0, x.1, λ t. subst (λ u. Gives allowed u n p (opened_to None)) (same t) (x.2 (now t)))
+    answered (Refused (Open f)) x = (x.0, λ t. subst (λ u. Gives allowed u n p (refused_by f)) (same t) (x.1 (now t)))
+    answered DeviceFault x = x
+    answered NoMemory x = (x.0, λ t. subst NeedsMetadata (same t) (x.1 (now t)))
+    answered b x = absurd x
+
+-- and where one may be
+pub answers_narrow : (tells : Type 0) (is : List ℕ → Type 0) (allowed : Allowed) (v w : List ℕ) (slot : Option ℕ) (p : List ℕ) (before after : ℕ) (a : Answer)
+    → (tells → w ≡ v) → (tells → is v) → IsOpenAnswer (tells × is w) allowed w slot p before after a → IsOpenAnswer tells allowed v slot p before after a
+answers_narrow tells is allowed v w (Some n) p before after a same read x = answers_named tells is allowed v w n p before after a same read x
+answers_narrow tells is allowed v w None p before after a same read x = answers_header tells is allowed v w p before after a same read x
+
+-- a header that isn't read is answered as its fault, a keyslot named or none
+pub answers_unread : (tells : Type 0) (allowed : Allowed) (v : List ℕ) (slot : Option ℕ) (p : List ℕ) (before after : ℕ) (f : ReadFault)
+    → after ≡ count_after (is_read_failure f) before → (tells → IsUnread v f) → IsOpenAnswer tells allowed v slot p before after (open_fault_answer (unread_opened f))
+answers_unread tells allowed v (Some n) p before after f count is =
+    one_unread_header tells allowed v n p before after f count (λ t. unread_refused allowed v n p f (choices_agree v) (is t))
+answers_unread tells allowed v None p before after f count is =
+    answers_unread_header tells allowed v p before after f count (λ t. unread_locked v f (choices_agree v) (is t))

@@ -15,35 +15,42 @@ use Rattle.luks_meta.specs.Content.{content}
 use Rattle.luks_reading.specs.declared.check_fault.CheckFault.{CheckFault}
 use Rattle.luks_reading.specs.declared.check_fault.CheckFault.TheVariants.{Head, Meta, Area, Device, Memory}
 use Rattle.luks_reading.specs.declared.header.ChosenCopy.{ChosenCopy}
+use Rattle.luks_reading.specs.declared.header.Header.{Header}
+use Rattle.luks_reading.specs.declared.header.Header.TheVariants as header
 use Rattle.luks_reading.specs.declared.read_fault.ReadFault.{ReadFault}
 use Rattle.luks_reading.specs.declared.read_fault.ReadFault.TheVariants as reading
 use Rattle.luks_reading.specs.declared.report.Data.TheVariants.{Elsewhere}
 use Rattle.luks_reading.specs.Checked.{check_key, First, IsFaultAs}
 use Rattle.luks_reading.specs.Conversions.{head_unread, unread_checked}
 use Rattle.luks_reading.specs.Failures.{is_read_failure}
-use Rattle.luks_reading.specs.Header.{json_at, IsChosenCopy, IsUnread}
+use Rattle.luks_reading.specs.Header.{json_at, IsChosenCopy, IsHeader, IsUnread}
 use Rattle.luks_reading.proofs.CheckFacts.{unread_refused}
 use Rattle.luks_reading.proofs.Luks2FaultFacts.{meta_cases}
 use Rattle.luks_reading.proofs.ReadFaults.{own_head}
 use Rattle.luks_request.specs.declared.request.ShowAs.{ShowAs}
-use Rattle.luks_request.specs.declared.request.ShowAs.TheVariants.{Lines, All, Map as AsMap, Tokens as AsTokens, Token as AsToken, Json as AsJson}
+use Rattle.luks_request.specs.declared.request.ShowAs.TheVariants.{Lines, All, Map as AsMap, Tables as AsTables, Tokens as AsTokens, Token as AsToken, Json as AsJson}
 use Rattle.luks_map.specs.Map.{IsMap}
+use Rattle.luks_wide_reading.specs.declared.read_fault.WideReadFault.TheVariants.{Read}
+use Rattle.luks_wide_reading.specs.Headers.{IsWideUnread}
 use Rattle.luks_edit.specs.declared.edit_fault.EditFault.{EditFault}
 use Rattle.luks_edit.specs.declared.edit_fault.EditFault.TheVariants.{NoSuchToken}
 use Rattle.luks_show.specs.declared.listing.Listing.{Listing}
 use Rattle.luks_show.specs.declared.listing.Listing.TheVariants.{Luks1, Luks2}
 use Rattle.luks_commands.specs.declared.answers.Answer.{Answer}
-use Rattle.luks_commands.specs.declared.answers.Answer.TheVariants.{Accepted, Listed, ListedFully, Mapped, Tokens, Json, Opens, Closed, NoneOpens, Matches, Differs, Done, Compared, Rescued, Refused, DeviceFault, NoMemory}
-use Rattle.luks_commands.specs.declared.answers.Refusal.TheVariants.{LongPassphrase, Check, Open, Key, Edit, Format, Convert, Rebuild, Rebuild1, Backup, Restore, SameFile, Exists, OtherUse, OtherVolume, Reencrypting}
+use Rattle.luks_commands.specs.declared.answers.Answer.TheVariants.{Listed, Json, Refused, DeviceFault, NoMemory}
+use Rattle.luks_commands.specs.declared.answers.Refusal.TheVariants.{Check, Edit}
 use Rattle.luks_commands.specs.Answer.{check_fault_answer}
-use Rattle.luks_commands.specs.ShowAnswers.{IsBeforeAreas, IsAsJson, IsAsMap, IsAsToken, IsAsTokens, IsFirstShowFault, IsFullAnswer, IsInFull, IsJsonAnswer, IsListedAnswer, IsMapAnswer, IsShowAnswer, IsShowFault, IsShown, IsShownAs, IsTokenAnswer, IsTokensAnswer}
+use Rattle.luks_commands.specs.Lost.{IsLost}
+use Rattle.luks_commands.proofs.NotUnderway.{read_narrow, unread_narrow}
+use Rattle.luks_commands.proofs.UnderwayFacts.{check_lost, narrow_unread}
+use Rattle.luks_commands.specs.ShowAnswers.{IsBeforeAreas, IsAsJson, IsAsMap, IsAsTables, IsAsToken, IsAsTokens, IsFirstShowFault, IsFullAnswer, IsHeaderAnswer, IsInFull, IsJsonAnswer, IsListedAnswer, IsMapAnswer, IsShowAnswer, IsShowFault, IsShown, IsShownAs, IsTablesAnswer, IsTokenAnswer, IsTokensAnswer, IsVolumeShown}
 
 -- the first fault of a check is the first that refuses a listing, unless it is one of the areas
 first_shown : (v : List ℕ) (f : CheckFault) → First v Elsewhere f → IsBeforeAreas f → IsFirstShowFault v f
 first_shown v f first before = (record { fault = first.0; before = before }, λ g is. first.1 g is.fault)
 
 -- a header that isn't read
-pub answers_unread : (tells : Type 0) (v : List ℕ) (before after : ℕ) (f : ReadFault)
+answers_unread : (tells : Type 0) (v : List ℕ) (before after : ℕ) (f : ReadFault)
     → after ≡ count_after (is_read_failure f) before → (tells → IsUnread v f) → IsListedAnswer tells v before after (check_fault_answer (unread_checked f))
 answers_unread tells v before after (reading.Head f) count is = (count, λ t. first_shown v (Head f) (unread_refused choices_agree v Elsewhere (reading.Head f) (is t)) tt)
 answers_unread tells v before after (reading.Meta f) count is = (count, λ t. first_shown v (Meta f) (unread_refused choices_agree v Elsewhere (reading.Meta f) (is t)) tt)
@@ -75,13 +82,12 @@ module _ (v : List ℕ) (chosen : Chosen v luks1) where
   luks1_faultless none Memory is = is.before
 
 -- the 592 bytes of a LUKS1 header have a fault
-pub answers_luks1 : (tells : Type 0) (v h : List ℕ) (before after : ℕ) (f : HeadFault)
-    → after ≡ before → (tells → Chosen v luks1 × (h ≡ part v 0 592)) → IsLeast head_key (IsLuks1Fault h) f
-    → IsListedAnswer tells v before after (check_fault_answer (unread_checked (head_unread f)))
-answers_luks1 tells v h before after f count is least =
-    subst (λ r. IsListedAnswer tells v before after (check_fault_answer (unread_checked r)))
+pub refused_luks1 : (h : List ℕ) (f : HeadFault) → IsLeast head_key (IsLuks1Fault h) f
+    → IsHeaderAnswer (header.Luks1 h) (check_fault_answer (unread_checked (head_unread f)))
+refused_luks1 h f least =
+    subst (λ r. IsHeaderAnswer (header.Luks1 h) (check_fault_answer (unread_checked r)))
     (sym (own_head f (λ e. subst (IsLuks1Fault h) e least.0) (λ e. subst (IsLuks1Fault h) e least.0)))
-    (count, λ t. luks1_first v (is t).0 f (subst (λ b. IsLeast head_key (IsLuks1Fault b) f) (is t).1 least))
+    (λ v is. luks1_first v is.0 f (subst (λ b. IsLeast head_key (IsLuks1Fault b) f) is.1 least))
 
 -- or none
 pub shows_luks1 : (v h : List ℕ) (d : Header1) → Chosen v luks1 × (h ≡ part v 0 592)
@@ -113,6 +119,15 @@ shows_luks2 v copy is = record { faultless = none; is = is }
     none Device x = x.before
     none Memory x = x.before
 
+-- ---- of a volume
+
+-- what is answered of a header in which nothing is under way is answered of the volume in which it counts
+header_listed : (tells : Type 0) (v : List ℕ) (before after : ℕ) (h : Header) (a : Answer) → after ≡ before
+    → (tells → IsHeader v h) → IsHeaderAnswer h a → IsListedAnswer tells v before after a
+header_listed tells v before after h (Listed listing) count is shown = (count, λ t. shown v (is t))
+header_listed tells v before after h (Refused (Check f)) count is shown = (count, λ t. shown v (is t))
+header_listed tells v before after h other count is shown = absurd shown
+
 -- ---- in another form
 
 -- the answer by lines as JSON
@@ -120,89 +135,21 @@ json_answer : (tells : Type 0) (v : List ℕ) (before after : ℕ) (answer a : A
     → IsListedAnswer tells v before after answer → IsJsonAnswer tells v before after a
 json_answer tells v before after (Listed listing) (Json text) made is = (is.0, λ t. record { listing = listing; shown = is.1 t; is = made })
 json_answer tells v before after (Listed listing) NoMemory made is = is.0
-json_answer tells v before after (Listed listing) (Accepted version areas) made is = absurd made
-json_answer tells v before after (Listed listing) (Listed other) made is = absurd made
-json_answer tells v before after (Listed listing) (ListedFully full) made is = absurd made
-json_answer tells v before after (Listed listing) (Mapped m) made is = absurd made
-json_answer tells v before after (Listed listing) (Tokens t) made is = absurd made
-json_answer tells v before after (Listed listing) (Opens n) made is = absurd made
-json_answer tells v before after (Listed listing) (Closed n) made is = absurd made
-json_answer tells v before after (Listed listing) NoneOpens made is = absurd made
-json_answer tells v before after (Listed listing) Matches made is = absurd made
-json_answer tells v before after (Listed listing) Differs made is = absurd made
-json_answer tells v before after (Listed listing) (Done slot) made is = absurd made
-json_answer tells v before after (Listed listing) (Compared comparison) made is = absurd made
-json_answer tells v before after (Listed listing) (Rescued lost) made is = absurd made
-json_answer tells v before after (Listed listing) (Refused by_) made is = absurd made
-json_answer tells v before after (Listed listing) DeviceFault made is = absurd made
-json_answer tells v before after (Accepted version areas) a made is = absurd is
-json_answer tells v before after (ListedFully full) a made is = absurd is
-json_answer tells v before after (Mapped m) a made is = absurd is
-json_answer tells v before after (Tokens t) a made is = absurd is
-json_answer tells v before after (Json text) a made is = absurd is
-json_answer tells v before after (Opens n) a made is = absurd is
-json_answer tells v before after (Closed n) a made is = absurd is
-json_answer tells v before after NoneOpens a made is = absurd is
-json_answer tells v before after Matches a made is = absurd is
-json_answer tells v before after Differs a made is = absurd is
-json_answer tells v before after (Done slot) a made is = absurd is
-json_answer tells v before after (Compared comparison) a made is = absurd is
-json_answer tells v before after (Rescued lost) a made is = absurd is
+json_answer tells v before after (Listed listing) other made is = absurd made
 json_answer tells v before after (Refused (Check f)) a made is = subst (IsJsonAnswer tells v before after) (sym made) is
-json_answer tells v before after (Refused LongPassphrase) a made is = absurd is
-json_answer tells v before after (Refused (Open f)) a made is = absurd is
-json_answer tells v before after (Refused (Key f)) a made is = absurd is
-json_answer tells v before after (Refused (Edit f)) a made is = absurd is
-json_answer tells v before after (Refused (Format f)) a made is = absurd is
-json_answer tells v before after (Refused (Convert f)) a made is = absurd is
-json_answer tells v before after (Refused (Rebuild f)) a made is = absurd is
-json_answer tells v before after (Refused (Rebuild1 f)) a made is = absurd is
-json_answer tells v before after (Refused (Backup f)) a made is = absurd is
-json_answer tells v before after (Refused (Restore f)) a made is = absurd is
-json_answer tells v before after (Refused SameFile) a made is = absurd is
-json_answer tells v before after (Refused Exists) a made is = absurd is
-json_answer tells v before after (Refused (OtherUse found)) a made is = absurd is
-json_answer tells v before after (Refused OtherVolume) a made is = absurd is
-json_answer tells v before after (Refused Reencrypting) a made is = absurd is
 json_answer tells v before after DeviceFault a made is = subst (IsJsonAnswer tells v before after) (sym made) is
 json_answer tells v before after NoMemory a made is = subst (IsJsonAnswer tells v before after) (sym made) is.0
+json_answer tells v before after other a made is = absurd is
 
 -- the answer by lines with all that they may tell
 full_answer : (tells : Type 0) (v : List ℕ) (before after : ℕ) (answer a : Answer) → IsInFull answer a
     → IsListedAnswer tells v before after answer → IsFullAnswer tells v before after a
 full_answer tells v before after (Listed listing) a made is =
     subst (IsFullAnswer tells v before after) (sym made.1.0) (is.0, λ t. subst (IsShown v) (sym made.1.1) (is.1 t))
-full_answer tells v before after (Accepted version areas) a made is = absurd is
-full_answer tells v before after (ListedFully full) a made is = absurd is
-full_answer tells v before after (Mapped m) a made is = absurd is
-full_answer tells v before after (Tokens t) a made is = absurd is
-full_answer tells v before after (Json text) a made is = absurd is
-full_answer tells v before after (Opens n) a made is = absurd is
-full_answer tells v before after (Closed n) a made is = absurd is
-full_answer tells v before after NoneOpens a made is = absurd is
-full_answer tells v before after Matches a made is = absurd is
-full_answer tells v before after Differs a made is = absurd is
-full_answer tells v before after (Done slot) a made is = absurd is
-full_answer tells v before after (Compared comparison) a made is = absurd is
-full_answer tells v before after (Rescued lost) a made is = absurd is
 full_answer tells v before after (Refused (Check f)) a made is = subst (IsFullAnswer tells v before after) (sym made) is
-full_answer tells v before after (Refused LongPassphrase) a made is = absurd is
-full_answer tells v before after (Refused (Open f)) a made is = absurd is
-full_answer tells v before after (Refused (Key f)) a made is = absurd is
-full_answer tells v before after (Refused (Edit f)) a made is = absurd is
-full_answer tells v before after (Refused (Format f)) a made is = absurd is
-full_answer tells v before after (Refused (Convert f)) a made is = absurd is
-full_answer tells v before after (Refused (Rebuild f)) a made is = absurd is
-full_answer tells v before after (Refused (Rebuild1 f)) a made is = absurd is
-full_answer tells v before after (Refused (Backup f)) a made is = absurd is
-full_answer tells v before after (Refused (Restore f)) a made is = absurd is
-full_answer tells v before after (Refused SameFile) a made is = absurd is
-full_answer tells v before after (Refused Exists) a made is = absurd is
-full_answer tells v before after (Refused (OtherUse found)) a made is = absurd is
-full_answer tells v before after (Refused OtherVolume) a made is = absurd is
-full_answer tells v before after (Refused Reencrypting) a made is = absurd is
 full_answer tells v before after DeviceFault a made is = subst (IsFullAnswer tells v before after) (sym made) is
 full_answer tells v before after NoMemory a made is = subst (IsFullAnswer tells v before after) (sym made) is
+full_answer tells v before after other a made is = absurd is
 
 -- the answer by lines as a map of a volume of `total` bytes
 map_answer : (total : ℕ) (tells : Type 0) (v : List ℕ) (before after : ℕ) (answer a : Answer) → (tells → length v ≡ total) → IsAsMap total answer a
@@ -210,74 +157,20 @@ map_answer : (total : ℕ) (tells : Type 0) (v : List ℕ) (before after : ℕ) 
 map_answer total tells v before after (Listed listing) a long made is =
     subst (IsMapAnswer tells v before after) (sym made.1.0)
     (is.0, λ t. record { listing = listing; shown = is.1 t; is = subst (λ n. IsMap listing n made.0) (sym (long t)) made.1.1 })
-map_answer total tells v before after (Accepted version areas) a long made is = absurd is
-map_answer total tells v before after (ListedFully full) a long made is = absurd is
-map_answer total tells v before after (Mapped m) a long made is = absurd is
-map_answer total tells v before after (Tokens t) a long made is = absurd is
-map_answer total tells v before after (Json text) a long made is = absurd is
-map_answer total tells v before after (Opens n) a long made is = absurd is
-map_answer total tells v before after (Closed n) a long made is = absurd is
-map_answer total tells v before after NoneOpens a long made is = absurd is
-map_answer total tells v before after Matches a long made is = absurd is
-map_answer total tells v before after Differs a long made is = absurd is
-map_answer total tells v before after (Done slot) a long made is = absurd is
-map_answer total tells v before after (Compared comparison) a long made is = absurd is
-map_answer total tells v before after (Rescued lost) a long made is = absurd is
 map_answer total tells v before after (Refused (Check f)) a long made is = subst (IsMapAnswer tells v before after) (sym made) is
-map_answer total tells v before after (Refused LongPassphrase) a long made is = absurd is
-map_answer total tells v before after (Refused (Open f)) a long made is = absurd is
-map_answer total tells v before after (Refused (Key f)) a long made is = absurd is
-map_answer total tells v before after (Refused (Edit f)) a long made is = absurd is
-map_answer total tells v before after (Refused (Format f)) a long made is = absurd is
-map_answer total tells v before after (Refused (Convert f)) a long made is = absurd is
-map_answer total tells v before after (Refused (Rebuild f)) a long made is = absurd is
-map_answer total tells v before after (Refused (Rebuild1 f)) a long made is = absurd is
-map_answer total tells v before after (Refused (Backup f)) a long made is = absurd is
-map_answer total tells v before after (Refused (Restore f)) a long made is = absurd is
-map_answer total tells v before after (Refused SameFile) a long made is = absurd is
-map_answer total tells v before after (Refused Exists) a long made is = absurd is
-map_answer total tells v before after (Refused (OtherUse found)) a long made is = absurd is
-map_answer total tells v before after (Refused OtherVolume) a long made is = absurd is
-map_answer total tells v before after (Refused Reencrypting) a long made is = absurd is
 map_answer total tells v before after DeviceFault a long made is = subst (IsMapAnswer tells v before after) (sym made) is
 map_answer total tells v before after NoMemory a long made is = subst (IsMapAnswer tells v before after) (sym made) is
+map_answer total tells v before after other a long made is = absurd is
 
 -- the answer by lines as that of its tokens
 tokens_answer : (tells : Type 0) (v : List ℕ) (before after : ℕ) (answer a : Answer) → IsAsTokens answer a
     → IsListedAnswer tells v before after answer → IsTokensAnswer tells v before after a
 tokens_answer tells v before after (Listed listing) a made is =
     subst (IsTokensAnswer tells v before after) (sym made.1.0) (is.0, λ t. subst (IsShown v) (sym made.1.1) (is.1 t))
-tokens_answer tells v before after (Accepted version areas) a made is = absurd is
-tokens_answer tells v before after (ListedFully full) a made is = absurd is
-tokens_answer tells v before after (Mapped m) a made is = absurd is
-tokens_answer tells v before after (Tokens t) a made is = absurd is
-tokens_answer tells v before after (Json text) a made is = absurd is
-tokens_answer tells v before after (Opens n) a made is = absurd is
-tokens_answer tells v before after (Closed n) a made is = absurd is
-tokens_answer tells v before after NoneOpens a made is = absurd is
-tokens_answer tells v before after Matches a made is = absurd is
-tokens_answer tells v before after Differs a made is = absurd is
-tokens_answer tells v before after (Done slot) a made is = absurd is
-tokens_answer tells v before after (Compared comparison) a made is = absurd is
-tokens_answer tells v before after (Rescued lost) a made is = absurd is
 tokens_answer tells v before after (Refused (Check f)) a made is = subst (IsTokensAnswer tells v before after) (sym made) is
-tokens_answer tells v before after (Refused LongPassphrase) a made is = absurd is
-tokens_answer tells v before after (Refused (Open f)) a made is = absurd is
-tokens_answer tells v before after (Refused (Key f)) a made is = absurd is
-tokens_answer tells v before after (Refused (Edit f)) a made is = absurd is
-tokens_answer tells v before after (Refused (Format f)) a made is = absurd is
-tokens_answer tells v before after (Refused (Convert f)) a made is = absurd is
-tokens_answer tells v before after (Refused (Rebuild f)) a made is = absurd is
-tokens_answer tells v before after (Refused (Rebuild1 f)) a made is = absurd is
-tokens_answer tells v before after (Refused (Backup f)) a made is = absurd is
-tokens_answer tells v before after (Refused (Restore f)) a made is = absurd is
-tokens_answer tells v before after (Refused SameFile) a made is = absurd is
-tokens_answer tells v before after (Refused Exists) a made is = absurd is
-tokens_answer tells v before after (Refused (OtherUse found)) a made is = absurd is
-tokens_answer tells v before after (Refused OtherVolume) a made is = absurd is
-tokens_answer tells v before after (Refused Reencrypting) a made is = absurd is
 tokens_answer tells v before after DeviceFault a made is = subst (IsTokensAnswer tells v before after) (sym made) is
 tokens_answer tells v before after NoMemory a made is = subst (IsTokensAnswer tells v before after) (sym made) is
+tokens_answer tells v before after other a made is = absurd is
 
 -- there is no such token
 no_such_token : (n : ℕ) (tells : Type 0) (v : List ℕ) (before after : ℕ) (listing : Listing) (f : EditFault) → IsAsToken n (Listed listing) (Refused (Edit f))
@@ -290,74 +183,67 @@ token_answer : (n : ℕ) (tells : Type 0) (v : List ℕ) (before after : ℕ) (a
     → IsListedAnswer tells v before after answer → IsTokenAnswer n tells v before after a
 token_answer n tells v before after (Listed listing) (Json text) made is = (is.0, λ t. record { listing = listing; shown = is.1 t; is = made })
 token_answer n tells v before after (Listed listing) NoMemory made is = is.0
-token_answer n tells v before after (Listed listing) (Accepted version areas) made is = absurd made
-token_answer n tells v before after (Listed listing) (Listed other) made is = absurd made
-token_answer n tells v before after (Listed listing) (ListedFully full) made is = absurd made
-token_answer n tells v before after (Listed listing) (Mapped m) made is = absurd made
-token_answer n tells v before after (Listed listing) (Tokens t) made is = absurd made
-token_answer n tells v before after (Listed listing) (Opens k) made is = absurd made
-token_answer n tells v before after (Listed listing) (Closed k) made is = absurd made
-token_answer n tells v before after (Listed listing) NoneOpens made is = absurd made
-token_answer n tells v before after (Listed listing) Matches made is = absurd made
-token_answer n tells v before after (Listed listing) Differs made is = absurd made
-token_answer n tells v before after (Listed listing) (Done slot) made is = absurd made
-token_answer n tells v before after (Listed listing) (Compared comparison) made is = absurd made
-token_answer n tells v before after (Listed listing) (Rescued lost) made is = absurd made
 token_answer n tells v before after (Listed listing) (Refused (Edit f)) made is = no_such_token n tells v before after listing f made is
-token_answer n tells v before after (Listed listing) (Refused LongPassphrase) made is = absurd made
-token_answer n tells v before after (Listed listing) (Refused (Check f)) made is = absurd made
-token_answer n tells v before after (Listed listing) (Refused (Open f)) made is = absurd made
-token_answer n tells v before after (Listed listing) (Refused (Key f)) made is = absurd made
-token_answer n tells v before after (Listed listing) (Refused (Format f)) made is = absurd made
-token_answer n tells v before after (Listed listing) (Refused (Convert f)) made is = absurd made
-token_answer n tells v before after (Listed listing) (Refused (Rebuild f)) made is = absurd made
-token_answer n tells v before after (Listed listing) (Refused (Rebuild1 f)) made is = absurd made
-token_answer n tells v before after (Listed listing) (Refused (Backup f)) made is = absurd made
-token_answer n tells v before after (Listed listing) (Refused (Restore f)) made is = absurd made
-token_answer n tells v before after (Listed listing) (Refused SameFile) made is = absurd made
-token_answer n tells v before after (Listed listing) (Refused Exists) made is = absurd made
-token_answer n tells v before after (Listed listing) (Refused (OtherUse found)) made is = absurd made
-token_answer n tells v before after (Listed listing) (Refused OtherVolume) made is = absurd made
-token_answer n tells v before after (Listed listing) (Refused Reencrypting) made is = absurd made
-token_answer n tells v before after (Listed listing) DeviceFault made is = absurd made
-token_answer n tells v before after (Accepted version areas) a made is = absurd is
-token_answer n tells v before after (ListedFully full) a made is = absurd is
-token_answer n tells v before after (Mapped m) a made is = absurd is
-token_answer n tells v before after (Tokens t) a made is = absurd is
-token_answer n tells v before after (Json text) a made is = absurd is
-token_answer n tells v before after (Opens k) a made is = absurd is
-token_answer n tells v before after (Closed k) a made is = absurd is
-token_answer n tells v before after NoneOpens a made is = absurd is
-token_answer n tells v before after Matches a made is = absurd is
-token_answer n tells v before after Differs a made is = absurd is
-token_answer n tells v before after (Done slot) a made is = absurd is
-token_answer n tells v before after (Compared comparison) a made is = absurd is
-token_answer n tells v before after (Rescued lost) a made is = absurd is
+token_answer n tells v before after (Listed listing) other made is = absurd made
 token_answer n tells v before after (Refused (Check f)) a made is = subst (IsTokenAnswer n tells v before after) (sym made) is
-token_answer n tells v before after (Refused LongPassphrase) a made is = absurd is
-token_answer n tells v before after (Refused (Open f)) a made is = absurd is
-token_answer n tells v before after (Refused (Key f)) a made is = absurd is
-token_answer n tells v before after (Refused (Edit f)) a made is = absurd is
-token_answer n tells v before after (Refused (Format f)) a made is = absurd is
-token_answer n tells v before after (Refused (Convert f)) a made is = absurd is
-token_answer n tells v before after (Refused (Rebuild f)) a made is = absurd is
-token_answer n tells v before after (Refused (Rebuild1 f)) a made is = absurd is
-token_answer n tells v before after (Refused (Backup f)) a made is = absurd is
-token_answer n tells v before after (Refused (Restore f)) a made is = absurd is
-token_answer n tells v before after (Refused SameFile) a made is = absurd is
-token_answer n tells v before after (Refused Exists) a made is = absurd is
-token_answer n tells v before after (Refused (OtherUse found)) a made is = absurd is
-token_answer n tells v before after (Refused OtherVolume) a made is = absurd is
-token_answer n tells v before after (Refused Reencrypting) a made is = absurd is
 token_answer n tells v before after DeviceFault a made is = subst (IsTokenAnswer n tells v before after) (sym made) is
 token_answer n tells v before after NoMemory a made is = subst (IsTokenAnswer n tells v before after) (sym made) is.0
+token_answer n tells v before after other a made is = absurd is
+
+-- the answer by lines where a table of what is under way is asked for
+tables_answer : (tells : Type 0) (v : List ℕ) (before after : ℕ) (answer a : Answer) → IsAsTables answer a
+    → IsListedAnswer tells v before after answer → IsTablesAnswer tells v before after a
+tables_answer tells v before after (Listed listing) a made is = subst (IsTablesAnswer tells v before after) (sym made) (is.0, λ t. (listing, is.1 t))
+tables_answer tells v before after (Refused (Check f)) a made is = subst (IsTablesAnswer tells v before after) (sym made) is
+tables_answer tells v before after DeviceFault a made is = subst (IsTablesAnswer tells v before after) (sym made) is
+tables_answer tells v before after NoMemory a made is = subst (IsTablesAnswer tells v before after) (sym made) is
+tables_answer tells v before after other a made is = absurd is
 
 -- in each form
-pub shown_answer : (form : ShowAs) (total : ℕ) (tells : Type 0) (v : List ℕ) (before after : ℕ) (answer a : Answer) → (tells → length v ≡ total)
+shown_answer : (form : ShowAs) (total : ℕ) (tells : Type 0) (v : List ℕ) (before after : ℕ) (answer a : Answer) → (tells → length v ≡ total)
     → IsShownAs form total answer a → IsListedAnswer tells v before after answer → IsShowAnswer form tells v before after a
 shown_answer Lines total tells v before after answer a long made is = subst (IsListedAnswer tells v before after) (sym made) is
 shown_answer All total tells v before after answer a long made is = full_answer tells v before after answer a made is
 shown_answer AsMap total tells v before after answer a long made is = map_answer total tells v before after answer a long made is
+shown_answer AsTables total tells v before after answer a long made is = tables_answer tells v before after answer a made is
 shown_answer AsTokens total tells v before after answer a long made is = tokens_answer tells v before after answer a made is
 shown_answer (AsToken n) total tells v before after answer a long made is = token_answer n tells v before after answer a made is
 shown_answer AsJson total tells v before after answer a long made is = json_answer tells v before after answer a made is
+
+-- ---- in each form, of a volume
+
+-- an answer that was lost stays
+lost_stays : (form : ShowAs) (total : ℕ) (answer a : Answer) → IsShownAs form total answer a → IsLost answer → IsLost a
+lost_stays Lines total answer a made lost = subst IsLost (sym made) lost
+lost_stays All total DeviceFault a made lost = subst IsLost (sym made) tt
+lost_stays All total NoMemory a made lost = subst IsLost (sym made) tt
+lost_stays AsMap total DeviceFault a made lost = subst IsLost (sym made) tt
+lost_stays AsMap total NoMemory a made lost = subst IsLost (sym made) tt
+lost_stays AsTables total DeviceFault a made lost = subst IsLost (sym made) tt
+lost_stays AsTables total NoMemory a made lost = subst IsLost (sym made) tt
+lost_stays AsTokens total DeviceFault a made lost = subst IsLost (sym made) tt
+lost_stays AsTokens total NoMemory a made lost = subst IsLost (sym made) tt
+lost_stays (AsToken n) total DeviceFault a made lost = subst IsLost (sym made) tt
+lost_stays (AsToken n) total NoMemory a made lost = subst IsLost (sym made) tt
+lost_stays AsJson total DeviceFault a made lost = subst IsLost (sym made) tt
+lost_stays AsJson total NoMemory a made lost = subst IsLost (sym made) tt
+lost_stays form total other a made lost = absurd lost
+
+-- a header in which nothing is under way
+pub shows_header : (form : ShowAs) (total : ℕ) (tells : Type 0) (v : List ℕ) (before after : ℕ) (h : Header) (answer a : Answer)
+    → (tells → length v ≡ total) → after ≡ before → (tells → IsHeader v h) → IsHeaderAnswer h answer → IsShownAs form total answer a
+    → IsVolumeShown form tells v before after a
+shows_header form total tells v before after h answer a long count is shown made = inl (
+  shown_answer form total tells v before after answer a long made (header_listed tells v before after h answer count is shown),
+  λ t u. absurd (read_narrow v h (is t) u),
+)
+
+-- one that isn't read for something else than what is under way
+pub shows_unread : (form : ShowAs) (total : ℕ) (tells : Type 0) (v : List ℕ) (before after : ℕ) (f : ReadFault) (a : Answer)
+    → (tells → length v ≡ total) → after ≡ count_after (is_read_failure f) before → (tells → IsWideUnread v (Read f))
+    → IsShownAs form total (check_fault_answer (unread_checked f)) a → IsVolumeShown form tells v before after a
+shows_unread form total tells v before after f a long count is made =
+    let answer = check_fault_answer (unread_checked f) in inl (
+      shown_answer form total tells v before after answer a long made (answers_unread tells v before after f count (λ t. narrow_unread v f (is t))),
+      λ t u. lost_stays form total answer a made (check_lost f (unread_narrow v f (is t) u)),
+    )

@@ -35,7 +35,7 @@ use Rattle.luks_keeping.specs.FaultTexts.{backup_fault_text, restore_fault_text}
 use Rattle.luks_keeping.specs.LostTexts.{rescued_text}
 use Rattle.luks_signatures.specs.UseTexts.{use_text}
 use Rattle.luks_commands.specs.declared.answers.Answer.{Answer}
-use Rattle.luks_commands.specs.declared.answers.Answer.TheVariants.{Accepted, Listed, ListedFully, Mapped, Tokens, Json, Opens, Closed, NoneOpens, Matches, Differs, Done, Compared, Rescued, Refused, DeviceFault, NoMemory}
+use Rattle.luks_commands.specs.declared.answers.Answer.TheVariants.{Accepted, Listed, ListedFully, Mapped, Tokens, Json, Underway, Opens, Closed, NoneOpens, Matches, Differs, Done, Compared, Rescued, Refused, DeviceFault, NoMemory}
 use Rattle.luks_commands.specs.declared.answers.Refusal.{Refusal}
 use Rattle.luks_commands.specs.declared.answers.Refusal.TheVariants as refusal
 use Rattle.luks_commands.specs.declared.answers.Status.{Status}
@@ -47,6 +47,7 @@ use Rattle.luks_show.specs.Listed.{full_text, listing_text}
 use Rattle.luks_show.specs.TokenText.{tokens_text}
 pub use Rattle.luks_show.specs.Texts.{copies_text, line}
 use Rattle.luks_commands.specs.Checked.{status_of}
+use Rattle.luks_commands.specs.UnderwayTexts.{shown_text, underway_refusal_text}
 use Rattle.luks_commands.specs.Exit.{exit_status}
 
 -- ---- the lines
@@ -75,6 +76,8 @@ refusal_text refusal.Exists = codes "Exists"
 refusal_text (refusal.OtherUse found) = codes "OtherUse(" ++ use_text found ++ codes ")"
 refusal_text refusal.OtherVolume = codes "OtherVolume"
 refusal_text refusal.Reencrypting = codes "Reencrypting"
+refusal_text (refusal.Underway by_) = underway_refusal_text by_
+refusal_text refusal.NotUnderWay = codes "NotUnderWay"
 
 -- what is printed; of a LUKS2 header that is shown line by line it isn't told
 abbrev pub line_of : Answer → Option (List ℕ)
@@ -84,6 +87,7 @@ line_of (ListedFully listing) = full_text listing.0
 line_of (Mapped map) = Some (map_text map)
 line_of (Tokens listing) = tokens_text listing.0
 line_of (Json text) = Some (line (string_bytes text))
+line_of (Underway shown) = Some (shown_text shown)
 line_of (Opens n) = Some (codes "slot " ++ decimal n ++ line (codes " opens"))
 line_of (Closed n) = Some (codes "slot " ++ decimal n ++ line (codes " does not open"))
 line_of NoneOpens = Some (line (codes "no slot opens"))
@@ -111,6 +115,7 @@ answer_status (ListedFully listing) = status.Done
 answer_status (Mapped map) = status.Done
 answer_status (Tokens listing) = status.Done
 answer_status (Json text) = status.Done
+answer_status (Underway shown) = status.Done
 answer_status (Opens n) = status.Done
 answer_status (Closed n) = status.Refused
 answer_status NoneOpens = status.Refused

@@ -4,7 +4,10 @@ pub mod FirstLine
 pub mod Printing
 pub mod Searched
 pub mod Checked
+pub mod UnderwayTexts
 pub mod Answer
+pub mod Lost
+pub mod UnderwayAnswers
 pub mod Beside
 pub mod CheckAnswers
 pub mod Chosen
@@ -14,5 +17,6 @@ pub mod KeyAnswers
 pub mod FormatAnswers
 pub mod Standing
 pub mod Turns
+pub mod UnderwayShown
 pub mod ShowAnswers
 pub mod Reencrypting

@@ -1,5 +1,5 @@
 -- What `show` may answer.
-use Rattle.std.specs.Prelude.{◌≡◌, ℕ, ◌+◌, List, length, Option, Some, None, Result, Ok, Err, ⊤, string_bytes}
+use Rattle.std.specs.Prelude.{◌≡◌, ◌⊎◌, ℕ, ◌+◌, List, length, Option, Some, None, Result, Ok, Err, ⊤, string_bytes}
 use Rattle.luks_area.specs.First.{IsLeast}
 use Rattle.luks_area.specs.Ranges.{part}
 use Rattle.luks1_header.specs.Header1.{IsLuks1}
@@ -8,12 +8,13 @@ use Rattle.luks_reading.specs.declared.check_fault.CheckFault.{CheckFault}
 use Rattle.luks_reading.specs.declared.check_fault.CheckFault.TheVariants as fault
 use Rattle.luks_reading.specs.declared.report.Data.TheVariants.{Elsewhere}
 use Rattle.luks_reading.specs.Checked.{check_key, IsFault}
-use Rattle.luks_reading.specs.Header.{IsChosenCopy, NeedsMetadata}
+use Rattle.luks_reading.specs.declared.header.Header.{Header}
+use Rattle.luks_reading.specs.Header.{IsChosenCopy, IsHeader, NeedsMetadata}
 use Rattle.luks_request.specs.declared.request.ShowAs.{ShowAs}
 use Rattle.luks_request.specs.declared.request.ShowAs.TheVariants as form
 use Rattle.luks_commands.specs.declared.answers.Answer.{Answer}
 use Rattle.luks_commands.specs.declared.answers.Answer.TheVariants.{Listed, ListedFully, Mapped, Tokens, Json, Refused, DeviceFault, NoMemory}
-use Rattle.luks_commands.specs.declared.answers.Refusal.TheVariants.{Check, Edit}
+use Rattle.luks_commands.specs.declared.answers.Refusal.TheVariants.{Check, Edit, NotUnderWay}
 use Rattle.luks_edit.specs.declared.edit_fault.EditFault.TheVariants.{NoSuchToken}
 use Rattle.luks_commands.specs.declared.inputs.InputFault.{InputFault}
 use Rattle.luks_show.specs.declared.listing.FullListing.{FullListing}
@@ -25,6 +26,9 @@ use Rattle.luks_show.specs.JsonText.{IsJsonText}
 use Rattle.luks_show.specs.TokenText.{IsShownToken}
 use Rattle.luks_show.specs.declared.tokens.TokenListing.{TokenListing}
 use Rattle.luks_commands.specs.Answer.{unread_answer}
+use Rattle.luks_commands.specs.Lost.{IsLost}
+use Rattle.luks_commands.specs.UnderwayShown.{IsUnderwayShowAnswer}
+use Rattle.luks_wide_reading.specs.Headers.{IsUnderWayVolume}
 
 -- ---- what refuses it
 
@@ -87,6 +91,12 @@ IsListedAnswer tells v before after DeviceFault = after ≡ before + 1
 IsListedAnswer tells v before after NoMemory = (after ≡ before) × (tells → NeedsMetadata v)
 IsListedAnswer tells v before after a = ⊥
 
+-- the same of a header that was read, of any volume in which it counts
+abbrev pub IsHeaderAnswer : Header → Answer → Type 0
+IsHeaderAnswer h (Listed listing) = (v : List ℕ) → IsHeader v h → IsShown v listing
+IsHeaderAnswer h (Refused (Check f)) = (v : List ℕ) → IsHeader v h → IsFirstShowFault v f
+IsHeaderAnswer h a = ⊥
+
 -- with all that its lines may tell: the same but for the form
 abbrev pub IsFullAnswer : Type 0 → List ℕ → ℕ → ℕ → Answer → Type 0
 IsFullAnswer tells v before after (ListedFully listing) = (after ≡ before) × (tells → IsShown v listing.0)
@@ -128,6 +138,14 @@ IsJsonAnswer tells v before after DeviceFault = after ≡ before + 1
 IsJsonAnswer tells v before after NoMemory = after ≡ before
 IsJsonAnswer tells v before after a = ⊥
 
+-- a table of what is under way: that nothing is, where it is listed
+abbrev pub IsTablesAnswer : Type 0 → List ℕ → ℕ → ℕ → Answer → Type 0
+IsTablesAnswer tells v before after (Refused NotUnderWay) = (after ≡ before) × (tells → (listing : Listing) × IsShown v listing)
+IsTablesAnswer tells v before after (Refused (Check f)) = (after ≡ before) × (tells → IsFirstShowFault v f)
+IsTablesAnswer tells v before after DeviceFault = after ≡ before + 1
+IsTablesAnswer tells v before after NoMemory = (after ≡ before) × (tells → NeedsMetadata v)
+IsTablesAnswer tells v before after a = ⊥
+
 -- what a listing becomes as JSON: its text, or memory is refused. Another answer stays
 abbrev pub IsAsJson : Answer → Answer → Type 0
 IsAsJson (Listed listing) (Json text) = IsJsonText listing (string_bytes text)
@@ -158,11 +176,17 @@ IsAsToken n (Listed listing) NoMemory = ⊤
 IsAsToken n (Listed listing) a = ⊥
 IsAsToken n answer a = a ≡ answer
 
+-- what a listing becomes where a table of what is under way is asked for. Another answer stays
+abbrev pub IsAsTables : Answer → Answer → Type 0
+IsAsTables (Listed listing) a = a ≡ Refused NotUnderWay
+IsAsTables answer a = a ≡ answer
+
 -- what an answer by lines, of a volume of `total` bytes, becomes in this form
 abbrev pub IsShownAs : ShowAs → ℕ → Answer → Answer → Type 0
 IsShownAs form.Lines total answer a = a ≡ answer
 IsShownAs form.All total answer a = IsInFull answer a
 IsShownAs form.Map total answer a = IsAsMap total answer a
+IsShownAs form.Tables total answer a = IsAsTables answer a
 IsShownAs form.Tokens total answer a = IsAsTokens answer a
 IsShownAs (form.Token n) total answer a = IsAsToken n answer a
 IsShownAs form.Json total answer a = IsAsJson answer a
@@ -172,12 +196,19 @@ abbrev pub IsShowAnswer : ShowAs → Type 0 → List ℕ → ℕ → ℕ → Ans
 IsShowAnswer form.Lines tells v before after a = IsListedAnswer tells v before after a
 IsShowAnswer form.All tells v before after a = IsFullAnswer tells v before after a
 IsShowAnswer form.Map tells v before after a = IsMapAnswer tells v before after a
+IsShowAnswer form.Tables tells v before after a = IsTablesAnswer tells v before after a
 IsShowAnswer form.Tokens tells v before after a = IsTokensAnswer tells v before after a
 IsShowAnswer (form.Token n) tells v before after a = IsTokenAnswer n tells v before after a
 IsShowAnswer form.Json tells v before after a = IsJsonAnswer tells v before after a
 
+-- of a volume, whether something is under way in its metadata or not: where something is, none of these is the answer, but that a call
+-- failed or memory was refused
+abbrev pub IsVolumeShown : ShowAs → Type 0 → List ℕ → ℕ → ℕ → Answer → Type 0
+IsVolumeShown shown_as tells v before after a =
+    (IsShowAnswer shown_as tells v before after a × (tells → IsUnderWayVolume v → IsLost a)) ⊎ IsUnderwayShowAnswer shown_as tells v before after a
+
 -- the same of a volume that may not be there
 abbrev pub AnswersShow : {D : Type 0} → ShowAs → Type 0 → (D → List ℕ) → (D → ℕ) → Result D InputFault → Result D InputFault → Answer → Type 0
-AnswersShow {D} shown_as tells bytes failed (Ok old) (Ok new) a = IsShowAnswer shown_as tells (bytes old) (failed old) (failed new) a
+AnswersShow {D} shown_as tells bytes failed (Ok old) (Ok new) a = IsVolumeShown shown_as tells (bytes old) (failed old) (failed new) a
 AnswersShow {D} shown_as tells bytes failed (Ok old) (Err fault) a = ⊥
 AnswersShow {D} shown_as tells bytes failed (Err fault) new a = a ≡ unread_answer fault

@@ -7,6 +7,8 @@ ghost use Rattle.luks_commands.specs.Answer.{rebuild_fault_answer, rebuild1_faul
 
 use crate::inputs::InputFault;
 use crate::printer::{Printer, Unprinted};
+use crate::underway_refusal::UnderwayRefusal;
+use crate::underway_shown::UnderwayShown;
 use luks_converting::ConvertFault;
 use luks_edit::EditFault;
 use luks_formatting::FormatFault;
@@ -69,6 +71,10 @@ pub enum Refusal {
     OtherVolume,
     /// The metadata of a reencryption stands on what would be written over.
     Reencrypting,
+    /// Something is under way in the volume's metadata.
+    Underway(UnderwayRefusal),
+    /// A table of what is under way is asked for, and nothing is.
+    NotUnderWay,
 }
 
 impl fmt::Display for Refusal {
@@ -92,6 +98,8 @@ impl fmt::Display for Refusal {
             Refusal::OtherUse(found) => write!(f, "OtherUse({found})"),
             Refusal::OtherVolume => f.write_str("OtherVolume"),
             Refusal::Reencrypting => f.write_str("Reencrypting"),
+            Refusal::Underway(refusal) => write!(f, "{refusal}"),
+            Refusal::NotUnderWay => f.write_str("NotUnderWay"),
         }
     }
 }
@@ -116,6 +124,8 @@ pub enum Answer {
     Tokens(TokenListing),
     /// The header is shown as this JSON object, or a token of it.
     Json(String),
+    /// This is shown of a volume in whose metadata something is under way.
+    Underway(UnderwayShown),
     /// The passphrase opens the keyslot of this number.
     Opens(u8),
     /// It doesn't open the keyslot of this number.
@@ -161,6 +171,7 @@ impl fmt::Display for Answer {
             Answer::Mapped(map) => write!(f, "{map}"),
             Answer::Tokens(listing) => write!(f, "{listing}"),
             Answer::Json(text) => writeln!(f, "{text}"),
+            Answer::Underway(shown) => write!(f, "{shown}"),
             Answer::Opens(n) => writeln!(f, "slot {n} opens"),
             Answer::Closed(n) => writeln!(f, "slot {n} does not open"),
             Answer::NoneOpens => writeln!(f, "no slot opens"),
@@ -196,6 +207,7 @@ impl Answer {
             },
             Answer::Listed(_) | Answer::ListedFully(_) => Status::Done,
             Answer::Mapped(_) | Answer::Tokens(_) | Answer::Json(_) => Status::Done,
+            Answer::Underway(_) => Status::Done,
             Answer::Opens(_) | Answer::Done(_) => Status::Done,
             Answer::Matches => Status::Done,
             Answer::Compared(comparison) if comparison.is_current() => Status::Done,

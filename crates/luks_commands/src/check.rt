@@ -1,16 +1,19 @@
 //! The command `check`.
 ghost use Rattle.std.specs.Prelude.{◌≡◌, ◌+◌, ◌<◌, ◌^◌, IfOk, IfErr};
 ghost use Rattle.std.specs.Result.{ForOk};
-ghost use Rattle.luks_area.specs.Device.{IsUnchanged};
+ghost use Rattle.luks_area.specs.Device.{CountsFailure, IsUnchanged};
 ghost use Rattle.luks_commands.specs.Answer.{answer_status};
 ghost use Rattle.luks_commands.specs.CheckAnswers.{AnswersCheck, IsCheckAnswer};
 ghost use Rattle.luks_commands.specs.Checked.{EndsCheck};
 ghost use Rattle.luks_commands.specs.Files.{KeepsVolume};
-ghost use Rattle.luks_reading.specs.Header.{IsAcceptedHeader};
+ghost use Rattle.luks_reading.specs.Failures.{is_read_failure};
+ghost use Rattle.luks_reading.specs.Header.{IsAcceptedHeader, IsHeader, IsUnread};
 
 use crate::answers::{Answer, Status, refused, unread};
 use crate::inputs::InputFault;
-use luks_reading::{AreaName, Areas, CheckFault, Data, Device, Header, check_header, read_header};
+use luks_reading::{AreaName, Areas, CheckFault, Data, Device, Header, ReadFault, check_header};
+use luks_underway_said::note_under_way;
+use luks_wide_reading::{WideHeader, WideReadFault, read_wide_header};
 use std::alloc::Global;
 use std::io::Write;
 
@@ -49,7 +52,7 @@ fn check_device<D: Device, E: Write>(
     ensures answers { IsCheckAnswer D.tells (D.bytes device.old) payload
         (D.failed device.old) (D.failed device.new) result }
 {
-    let header = match read_header(alloc, device) {
+    let header = match read_noting(alloc, device, name, err) {
         Ok(header) => header,
         Err(fault) => return refused(CheckFault::from(fault), name, err),
     };
@@ -66,6 +69,32 @@ fn check_device<D: Device, E: Write>(
             note_detached(&header, total, err);
             refused(fault, name, err)
         }
+    }
+}
+
+/// Reads the header that counts of the volume of this name. `err` gets what a reencryption does that is under way
+/// in it, for which it is refused.
+fn read_noting<D: Device, E: Write>(
+    alloc: Global,
+    device: &mut D,
+    name: &str,
+    err: &mut E,
+) -> Result<Header, ReadFault>
+    requires { D.failed device.old + 1 < 2 ^ 64 }
+    ensures unchanged { IsUnchanged D.tells D.size D.bytes D.unsettled device.old device.new }
+    ensures count { CountsFailure is_read_failure result (D.failed device.old) (D.failed device.new) }
+    ensures accepted { IfOk result IsAcceptedHeader }
+    ensures read { D.tells → IfOk result (IsHeader (D.bytes device.old)) }
+    ensures refused { D.tells → IfErr result (IsUnread (D.bytes device.old)) }
+{
+    match read_wide_header(alloc, device) {
+        Ok(WideHeader::Narrow(header)) => Ok(header),
+        Ok(WideHeader::Underway(copy)) => {
+            let _ = note_under_way(&copy.meta, name, err);
+            Err(ReadFault::Meta(copy.narrow_fault))
+        }
+        Err(WideReadFault::Read(fault)) => Err(fault),
+        Err(WideReadFault::Underway { narrow_fault, .. }) => Err(ReadFault::Meta(narrow_fault)),
     }
 }
 

@@ -18,6 +18,8 @@ mod reencrypting;
 mod secret_file;
 pub mod show;
 mod standing;
+mod underway_refusal;
+mod underway_shown;
 
 pub use answers::{Answer, Refusal, Status, device_fault, end, refused, unread};
 pub use chosen::chosen_of;
@@ -28,3 +30,5 @@ pub use printer::{CountingPrinter, Printer, Unprinted};
 pub use random_file::{RandomBytes, few_random_bytes, random_bytes};
 pub use reencrypting::is_reencrypting;
 pub use standing::{Bar, held_back, judge_standing, standing_use_of, uuid_of};
+pub use underway_refusal::UnderwayRefusal;
+pub use underway_shown::UnderwayShown;

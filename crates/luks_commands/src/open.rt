@@ -7,22 +7,25 @@ ghost use Rattle.luks_commands.specs.Files.{IsLong, IsUnread, IsWhole, KeepsVolu
 ghost use Rattle.luks_reading.specs.Failures.{is_open_failure};
 ghost use Rattle.luks_reading.specs.Header.{IsAcceptedHeader, IsHeader};
 ghost use Rattle.luks_reading.specs.HeaderAnswers.{IsHeaderUnlocking, IsSlotOpening};
-ghost use Rattle.luks_commands.specs.OpenAnswers.{any_answer, AnswersOpen, IsAnswerBeside, IsAnyAnswer, IsOneAnswer, IsOpenAnswer, allowed_of, kib_of, one_answer};
+ghost use Rattle.luks_commands.specs.OpenAnswers.{any_answer, AnswersOpen, IsAnswerBeside, IsAnyAnswer, IsOneAnswer, IsOpenAnswer, IsWideAnswer, allowed_of, kib_of, one_answer, wide_read_answer};
 
 mod almost_met;
 mod searching;
+mod underway;
+mod underway_untried;
 
 use crate::answers::{Answer, Refusal, Status, unread};
 use crate::inputs::Inputs;
 use crate::passphrase_file::{PassphraseFault, passphrase};
+use crate::underway_refusal::UnderwayRefusal;
 use almost_met::note_unopened;
 use luks_notes::{note_all_wanting, note_passed_over, note_refused, note_unbound, note_wanting};
-use luks_reading::{
-    Allowed, Device, Header, Key, OpenFault, read_header, try_header, try_header_slot,
-};
+use luks_reading::{Allowed, Device, Header, Key, OpenFault, try_header, try_header_slot};
+use luks_wide_reading::{WideHeader, WideReadFault, read_wide_header};
 use searching::{Trial, search};
 use std::alloc::Global;
 use std::io::{Read, Write};
+use underway::{UnderwayTrial, open_underway};
 
 /// What is tried, by the words of the command line.
 #[derive(Clone, Copy)]
@@ -79,13 +82,86 @@ fn open_device<D: Device, E: Write>(
     requires passphrase { length passphrase.now < 2 ^ 32 }
     ensures unchanged { IsUnchanged D.tells D.size D.bytes D.unsettled device.old device.new }
     ensures kinds { answer_status result ≢ Status.NotInStep }
-    ensures answers { IsOpenAnswer D.tells (allowed_of tried.now.memory tried.now.older) (D.bytes device.old)
+    ensures answers { IsWideAnswer D.tells (allowed_of tried.now.memory tried.now.older) (D.bytes device.old)
         tried.now.slot passphrase.now (D.failed device.old) (D.failed device.new) result }
 {
+    let answer = open_read(alloc, device, tried, passphrase, err);
+    note_failure(&answer, tried.volume, err);
+    answer
+}
+
+/// What is answered by the header that counts, which is read.
+fn open_read<D: Device, E: Write>(
+    alloc: Global,
+    device: &mut D,
+    tried: &Tried<'_>,
+    passphrase: &[u8],
+    err: &mut E,
+) -> Answer
+    requires room { D.failed device.old + 1 < 2 ^ 64 }
+    requires passphrase { length passphrase.now < 2 ^ 32 }
+    ensures unchanged { IsUnchanged D.tells D.size D.bytes D.unsettled device.old device.new }
+    ensures kinds { answer_status result ≢ Status.NotInStep }
+    ensures answers { IsWideAnswer D.tells (allowed_of tried.now.memory tried.now.older) (D.bytes device.old)
+        tried.now.slot passphrase.now (D.failed device.old) (D.failed device.new) result }
+{
+    let volume = tried.volume;
     let allowed = allowed_of(tried.memory, tried.older);
-    match tried.slot {
-        Some(n) => open_one(alloc, device, tried.volume, n, passphrase, allowed, err),
-        None => open_any(alloc, device, tried.volume, passphrase, allowed, err),
+    match read_wide_header(alloc, device) {
+        Ok(WideHeader::Narrow(header)) => {
+            let trial = Trial {
+                volume,
+                header: &header,
+                passphrase,
+                allowed,
+            };
+            open_narrow(alloc, device, &trial, tried.slot, err)
+        }
+        Ok(WideHeader::Underway(copy)) => {
+            let trial = UnderwayTrial {
+                volume,
+                copy: &copy,
+                passphrase,
+                allowed,
+            };
+            open_underway(alloc, device, &trial, tried.slot, err)
+        }
+        Err(fault) => unread_header(fault),
+    }
+}
+
+/// What is answered where the header isn't read.
+fn unread_header(fault: WideReadFault) -> Answer
+    ensures { result ≡ wide_read_answer fault }
+{
+    match fault {
+        WideReadFault::Read(fault) => Answer::from(OpenFault::from(fault)),
+        WideReadFault::Underway { fault, .. } => {
+            Answer::Refused(Refusal::Underway(UnderwayRefusal::Metadata(fault)))
+        }
+    }
+}
+
+/// What is answered of a volume whose header was read, in which nothing is under way.
+fn open_narrow<D: Device, E: Write>(
+    alloc: Global,
+    device: &mut D,
+    trial: &Trial<'_>,
+    slot: Option<u8>,
+    err: &mut E,
+) -> Answer
+    requires room { D.failed device.old + 1 < 2 ^ 64 }
+    requires accepted { IsAcceptedHeader trial.now.header.now }
+    requires passphrase { length trial.now.passphrase.now < 2 ^ 32 }
+    ensures unchanged { IsUnchanged D.tells D.size D.bytes D.unsettled device.old device.new }
+    ensures kinds { answer_status result ≢ Status.NotInStep }
+    ensures answers { IsOpenAnswer (D.tells × IsHeader (D.bytes device.old) trial.now.header.now)
+        trial.now.allowed (D.bytes device.old) slot trial.now.passphrase.now
+        (D.failed device.old) (D.failed device.new) result }
+{
+    match slot {
+        Some(n) => open_one(alloc, device, trial, n, err),
+        None => open_any(alloc, device, trial, err),
     }
 }
 
@@ -110,31 +186,27 @@ pub fn kib_of(mib: u32) -> u32
 fn open_one<D: Device, E: Write>(
     alloc: Global,
     device: &mut D,
-    volume: &str,
+    trial: &Trial<'_>,
     n: u8,
-    passphrase: &[u8],
-    allowed: Allowed,
     err: &mut E,
 ) -> Answer
     requires room { D.failed device.old + 1 < 2 ^ 64 }
-    requires passphrase { length passphrase.now < 2 ^ 32 }
+    requires accepted { IsAcceptedHeader trial.now.header.now }
+    requires passphrase { length trial.now.passphrase.now < 2 ^ 32 }
     ensures unchanged { IsUnchanged D.tells D.size D.bytes D.unsettled device.old device.new }
     ensures kinds { answer_status result ≢ Status.NotInStep }
-    ensures answers { IsOneAnswer D.tells allowed (D.bytes device.old) n passphrase.now
+    ensures answers { IsOneAnswer (D.tells × IsHeader (D.bytes device.old) trial.now.header.now)
+        trial.now.allowed (D.bytes device.old) n trial.now.passphrase.now
         (D.failed device.old) (D.failed device.new) result }
 {
-    let header = match read_header(alloc, device) {
-        Ok(header) => header,
-        Err(fault) => {
-            let answer = Answer::from(OpenFault::from(fault));
-            note_failure(&answer, volume, err);
-            return answer;
-        }
-    };
-    let opened = try_one(alloc, device, &header, n, passphrase, allowed, err);
-    let answer = one_answer(n, &opened);
-    note_failure(&answer, volume, err);
-    answer
+    let Trial {
+        header,
+        passphrase,
+        allowed,
+        ..
+    } = *trial;
+    let opened = try_one(alloc, device, header, n, passphrase, allowed, err);
+    one_answer(n, &opened)
 }
 
 /// Tries the keyslot `n` of a volume with this header; `err` gets what is to be known of what that gave, but
@@ -217,41 +289,6 @@ fn one_answer(n: u8, opened: &Result<Option<Key>, OpenFault>) -> Answer
 }
 
 fn open_any<D: Device, E: Write>(
-    alloc: Global,
-    device: &mut D,
-    volume: &str,
-    passphrase: &[u8],
-    allowed: Allowed,
-    err: &mut E,
-) -> Answer
-    requires room { D.failed device.old + 1 < 2 ^ 64 }
-    requires passphrase { length passphrase.now < 2 ^ 32 }
-    ensures unchanged { IsUnchanged D.tells D.size D.bytes D.unsettled device.old device.new }
-    ensures kinds { answer_status result ≢ Status.NotInStep }
-    ensures answers { IsAnyAnswer D.tells allowed (D.bytes device.old) passphrase.now
-        (D.failed device.old) (D.failed device.new) result }
-{
-    let header = match read_header(alloc, device) {
-        Ok(header) => header,
-        Err(fault) => {
-            let answer = Answer::from(OpenFault::from(fault));
-            note_failure(&answer, volume, err);
-            return answer;
-        }
-    };
-    let trial = Trial {
-        volume,
-        header: &header,
-        passphrase,
-        allowed,
-    };
-    let answer = open_header(alloc, device, &trial, err);
-    note_failure(&answer, volume, err);
-    answer
-}
-
-/// What is answered of a volume whose header was read.
-fn open_header<D: Device, E: Write>(
     alloc: Global,
     device: &mut D,
     trial: &Trial<'_>,

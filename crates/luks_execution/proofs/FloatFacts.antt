@@ -7,7 +7,7 @@ use Rattle.serde_json.specs.Written.{has_float, items_have_float}
 use Rattle.luks_reading.specs.declared.report.Version.{Version}
 use Rattle.luks_reading.specs.declared.report.Version.TheVariants.{Luks1, Luks2}
 use Rattle.luks_commands.specs.declared.answers.Answer.{Answer}
-use Rattle.luks_commands.specs.declared.answers.Answer.TheVariants.{Accepted, Listed, ListedFully, Mapped, Tokens, Json, Opens, Closed, NoneOpens, Matches, Differs, Done, Compared, Rescued, Refused, DeviceFault, NoMemory}
+use Rattle.luks_commands.specs.declared.answers.Answer.TheVariants.{Accepted, Listed, ListedFully, Mapped, Tokens, Json, Underway, Opens, Closed, NoneOpens, Matches, Differs, Done, Compared, Rescued, Refused, DeviceFault, NoMemory}
 use Rattle.luks_execution.specs.AnswerValue.{accepted_value, bare_value, fault_value, IsAnswerWith, slot_value, texts_value}
 
 -- nor have texts
@@ -45,6 +45,7 @@ module _ (hints : List (List ℕ)) (status : ℕ) where
   answer_whole (Tokens listing) d is = ap has_float is ∙ bare_whole (codes "shown")
   answer_whole (Mapped map) d is = ap has_float is ∙ bare_whole (codes "shown")
   answer_whole (Json text) d is = ap has_float is ∙ bare_whole (codes "shown")
+  answer_whole (Underway shown) d is = ap has_float is ∙ bare_whole (codes "shown")
   answer_whole (Compared comparison) d is = ap has_float is ∙ bare_whole (codes "compared")
   answer_whole (Rescued lost) d is = ap has_float is ∙ bare_whole (codes "rescued")
   answer_whole DeviceFault d is = ap has_float is ∙ bare_whole (codes "device fault")

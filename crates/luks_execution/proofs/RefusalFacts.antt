@@ -15,6 +15,9 @@ use Rattle.luks1_header.specs.FaultTexts.{fault_text as head_fault_text, field_t
 use Rattle.luks_rules.specs.declared.fault.MetaFault.{MetaFault}
 use Rattle.luks_rules.specs.declared.fault.MetaFault.TheVariants as meta
 use Rattle.luks_rules.specs.MetaFault.{fault_text as meta_fault_text}
+use Rattle.luks_wider.specs.declared.fault.WideFault.{WideFault}
+use Rattle.luks_wider.specs.declared.fault.WideFault.TheVariants as wide
+use Rattle.luks_wider.specs.WideFaults.{wide_fault_text}
 use Rattle.luks_slot.specs.declared.fault.SlotFault.{SlotFault}
 use Rattle.luks_slot.specs.declared.fault.SlotFault.TheVariants as slot
 use Rattle.luks_slot.specs.Fault.{fault_text as slot_fault_text}
@@ -48,7 +51,10 @@ use Rattle.luks_keeping.specs.FaultTexts.{backup_fault_text, restore_fault_text}
 use Rattle.luks_signatures.specs.UseTexts.{use_text}
 use Rattle.luks_commands.specs.declared.answers.Refusal.{Refusal}
 use Rattle.luks_commands.specs.declared.answers.Refusal.TheVariants as refusal
+use Rattle.luks_commands.specs.declared.underway_refusal.UnderwayRefusal.{UnderwayRefusal}
+use Rattle.luks_commands.specs.declared.underway_refusal.UnderwayRefusal.TheVariants as underway
 use Rattle.luks_commands.specs.Answer.{refusal_text}
+use Rattle.luks_commands.specs.UnderwayTexts.{underway_refusal_text}
 use Rattle.luks_execution.specs.Parted.{HasParts, LacksBracket}
 
 -- a text whose bytes are tested to be none has no bracket
@@ -92,6 +98,10 @@ meta_parts meta.Sizes = bare (codes "Sizes") refl
 meta_parts (meta.AreaTooSmall n) = around (codes "AreaTooSmall") (decimal n) refl
 meta_parts (meta.Region name) = around (codes "Region") (name_text name) refl
 meta_parts meta.Memory = bare (codes "Memory") refl
+
+wide_parts : (f : WideFault) → HasParts (wide_fault_text f)
+wide_parts (wide.Meta f) = meta_parts f
+wide_parts (wide.UnderWay path) = around (codes "UnderWay") path.bytes refl
 
 slot_parts : (f : SlotFault) → HasParts (slot_fault_text f)
 slot_parts slot.Argon2 = bare (codes "Argon2") refl
@@ -214,6 +224,11 @@ restore_parts restoring.OtherVolume = bare (codes "OtherVolume") refl
 restore_parts restoring.Memory = bare (codes "Memory") refl
 restore_parts restoring.Device = bare (codes "Device") refl
 
+underway_parts : (r : UnderwayRefusal) → HasParts (underway_refusal_text r)
+underway_parts (underway.Metadata f) = wide_parts f
+underway_parts underway.NoKey = bare (codes "NoKey") refl
+underway_parts underway.Progressed = bare (codes "Progressed") refl
+
 -- of each command
 pub refusal_parts : (r : Refusal) → HasParts (refusal_text r)
 refusal_parts refusal.LongPassphrase = bare (codes "Passphrase") refl
@@ -232,3 +247,5 @@ refusal_parts refusal.Exists = bare (codes "Exists") refl
 refusal_parts (refusal.OtherUse found) = around (codes "OtherUse") (use_text found) refl
 refusal_parts refusal.OtherVolume = bare (codes "OtherVolume") refl
 refusal_parts refusal.Reencrypting = bare (codes "Reencrypting") refl
+refusal_parts (refusal.Underway by_) = underway_parts by_
+refusal_parts refusal.NotUnderWay = bare (codes "NotUnderWay") refl

@@ -8,7 +8,7 @@ use Rattle.luks_reading.specs.declared.report.Version.TheVariants.{Luks1, Luks2}
 use Rattle.luks_show.specs.Steering.{IsSteerless, unsteering}
 use Rattle.luks_show.specs.Texts.{copies_text}
 use Rattle.luks_commands.specs.declared.answers.Answer.{Answer}
-use Rattle.luks_commands.specs.declared.answers.Answer.TheVariants.{Accepted, Listed, ListedFully, Mapped, Tokens, Json, Opens, Closed, NoneOpens, Matches, Differs, Done, Compared, Rescued, Refused, DeviceFault, NoMemory}
+use Rattle.luks_commands.specs.declared.answers.Answer.TheVariants.{Accepted, Listed, ListedFully, Mapped, Tokens, Json, Underway, Opens, Closed, NoneOpens, Matches, Differs, Done, Compared, Rescued, Refused, DeviceFault, NoMemory}
 use Rattle.luks_commands.specs.Answer.{answer_status, refusal_text}
 use Rattle.luks_commands.specs.Exit.{exit_status}
 use Rattle.luks_execution.specs.Parted.{IsParted}
@@ -90,6 +90,7 @@ IsAnswerWith (ListedFully listing) hints status d = d ≡ bare_value (codes "sho
 IsAnswerWith (Tokens listing) hints status d = d ≡ bare_value (codes "shown") hints status
 IsAnswerWith (Mapped map) hints status d = d ≡ bare_value (codes "shown") hints status
 IsAnswerWith (Json text) hints status d = d ≡ bare_value (codes "shown") hints status
+IsAnswerWith (Underway shown) hints status d = d ≡ bare_value (codes "shown") hints status
 IsAnswerWith (Compared comparison) hints status d = d ≡ bare_value (codes "compared") hints status
 IsAnswerWith (Rescued lost) hints status d = d ≡ bare_value (codes "rescued") hints status
 IsAnswerWith DeviceFault hints status d = d ≡ bare_value (codes "device fault") hints status

@@ -45,7 +45,8 @@ fn answer_value(alloc: Global, answer: &Answer, hints: &[&str]) -> Result<Value,
         | Answer::ListedFully(_)
         | Answer::Mapped(_)
         | Answer::Tokens(_)
-        | Answer::Json(_) => { bare_value(alloc, "shown", hints, status) }
+        | Answer::Json(_)
+        | Answer::Underway(_) => { bare_value(alloc, "shown", hints, status) }
         Answer::Compared(_) => bare_value(alloc, "compared", hints, status),
         Answer::Rescued(_) => bare_value(alloc, "rescued", hints, status),
         Answer::DeviceFault => bare_value(alloc, "device fault", hints, status),

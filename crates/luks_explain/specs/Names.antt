@@ -30,11 +30,13 @@ name_of fault.Assigned = codes "Assigned"
 name_of fault.Sizes = codes "Sizes"
 name_of fault.AreaTooSmall = codes "AreaTooSmall"
 name_of fault.Region = codes "Region"
+name_of fault.UnderWay = codes "UnderWay"
 name_of fault.Outside = codes "Outside"
 name_of fault.Overlap = codes "Overlap"
 name_of fault.NoSuchSlot = codes "NoSuchSlot"
 name_of fault.SameSlot = codes "SameSlot"
 name_of fault.SlotFree = codes "SlotFree"
+name_of fault.NoKey = codes "NoKey"
 name_of fault.Argon2 = codes "Argon2"
 name_of fault.Cipher = codes "Cipher"
 name_of fault.Hash = codes "Hash"
@@ -73,6 +75,8 @@ name_of fault.DoesNotFit = codes "DoesNotFit"
 name_of fault.OtherVolume = codes "OtherVolume"
 name_of fault.OtherUse = codes "OtherUse"
 name_of fault.Reencrypting = codes "Reencrypting"
+name_of fault.Progressed = codes "Progressed"
+name_of fault.NotUnderWay = codes "NotUnderWay"
 
 -- each of them, once
 abbrev pub all_faults : List Fault
@@ -97,11 +101,13 @@ all_faults =
     ∷ fault.Sizes
     ∷ fault.AreaTooSmall
     ∷ fault.Region
+    ∷ fault.UnderWay
     ∷ fault.Outside
     ∷ fault.Overlap
     ∷ fault.NoSuchSlot
     ∷ fault.SameSlot
     ∷ fault.SlotFree
+    ∷ fault.NoKey
     ∷ fault.Argon2
     ∷ fault.Cipher
     ∷ fault.Hash
@@ -140,6 +146,8 @@ all_faults =
     ∷ fault.OtherVolume
     ∷ fault.OtherUse
     ∷ fault.Reencrypting
+    ∷ fault.Progressed
+    ∷ fault.NotUnderWay
     ∷ []
 
 -- the fault of a name, if there is one
@@ -168,11 +176,13 @@ named fault.Assigned = refl
 named fault.Sizes = refl
 named fault.AreaTooSmall = refl
 named fault.Region = refl
+named fault.UnderWay = refl
 named fault.Outside = refl
 named fault.Overlap = refl
 named fault.NoSuchSlot = refl
 named fault.SameSlot = refl
 named fault.SlotFree = refl
+named fault.NoKey = refl
 named fault.Argon2 = refl
 named fault.Cipher = refl
 named fault.Hash = refl
@@ -211,6 +221,8 @@ named fault.DoesNotFit = refl
 named fault.OtherVolume = refl
 named fault.OtherUse = refl
 named fault.Reencrypting = refl
+named fault.Progressed = refl
+named fault.NotUnderWay = refl
 
 -- the fault of a name as a person writes it, with capital letters or small ones, if there is one
 abbrev pub fault_called : List ℕ → Option Fault
@@ -238,11 +250,13 @@ called fault.Assigned = refl
 called fault.Sizes = refl
 called fault.AreaTooSmall = refl
 called fault.Region = refl
+called fault.UnderWay = refl
 called fault.Outside = refl
 called fault.Overlap = refl
 called fault.NoSuchSlot = refl
 called fault.SameSlot = refl
 called fault.SlotFree = refl
+called fault.NoKey = refl
 called fault.Argon2 = refl
 called fault.Cipher = refl
 called fault.Hash = refl
@@ -281,3 +295,5 @@ called fault.DoesNotFit = refl
 called fault.OtherVolume = refl
 called fault.OtherUse = refl
 called fault.Reencrypting = refl
+called fault.Progressed = refl
+called fault.NotUnderWay = refl

@@ -49,6 +49,8 @@ pub enum Fault {
     AreaTooSmall,
     /// LUKS2: a key area lies outside its region, or the data within it.
     Region,
+    /// LUKS2: what is under way in the metadata contradicts itself.
+    UnderWay,
     /// An area ends past the volume's end.
     Outside,
     /// Two areas share bytes, so that writing one destroys the other.
@@ -59,6 +61,8 @@ pub enum Fault {
     SameSlot,
     /// LUKS1: the keyslot is disabled.
     SlotFree,
+    /// The keyslot is the reencryption's own, and holds no key.
+    NoKey,
     /// The keyslot derives by Argon2, with more memory than is allowed.
     Argon2,
     /// The key area's cipher isn't aes-xts-plain64 or aes-xts-plain, nor one of older disks that is accepted; of
@@ -137,6 +141,10 @@ pub enum Fault {
     OtherUse,
     /// cryptsetup is in the midst of reencrypting the volume.
     Reencrypting,
+    /// Of restore: the reencryption has gone on since the backup.
+    Progressed,
+    /// Of show --tables: nothing is under way in the volume.
+    NotUnderWay,
 }
 
 /// The name of the fault's variant.
@@ -152,7 +160,7 @@ impl Fault {
     /// Every fault: of the header, the metadata of LUKS2, the areas, the keyslot that is to be opened,
     /// then of an edit, of formatting, of converting, of rebuilding and of header backups, and at last of
     /// another use of the disk and of a reencryption.
-    pub const ALL: [Fault; 63] = [
+    pub const ALL: [Fault; 67] = [
         Fault::TooShort,
         Fault::NotLuks,
         Fault::Version,
@@ -173,11 +181,13 @@ impl Fault {
         Fault::Sizes,
         Fault::AreaTooSmall,
         Fault::Region,
+        Fault::UnderWay,
         Fault::Outside,
         Fault::Overlap,
         Fault::NoSuchSlot,
         Fault::SameSlot,
         Fault::SlotFree,
+        Fault::NoKey,
         Fault::Argon2,
         Fault::Cipher,
         Fault::Hash,
@@ -216,6 +226,8 @@ impl Fault {
         Fault::OtherVolume,
         Fault::OtherUse,
         Fault::Reencrypting,
+        Fault::Progressed,
+        Fault::NotUnderWay,
     ];
 
     /// The fault that is so printed, or that has this name, written with capital letters or small ones;
@@ -236,11 +248,11 @@ impl Fault {
         variant_name!(self;
             TooShort NotLuks Version NoSoundCopy Text Uuid SlotState KeyBytes Stripes Iterations
             JsonArea BadJson NotWhole Shape Kind NoSuchName Assigned Sizes AreaTooSmall Region
-            Outside Overlap NoSuchSlot SameSlot SlotFree Argon2 Cipher Hash KeySize NoSuchDigest KeyLength
+            UnderWay Outside Overlap NoSuchSlot SameSlot SlotFree NoKey Argon2 Cipher Hash KeySize NoSuchDigest KeyLength
             WrongKey Locked Passphrase Requirements SlotTaken NoFreeSlot NoRoom LastSlot BadLabel
             NoSuchToken TokenTaken NoFreeToken UnreadableToken BadUuid SeqExhausted MetadataFull
             RandomLength Payload TooSmall SectorSize Uneven NotLuks1 SameFile Counts NoMetadata NoHeader Exists
-            NotAccepted DoesNotFit OtherVolume OtherUse Reencrypting
+            NotAccepted DoesNotFit OtherVolume OtherUse Reencrypting Progressed NotUnderWay
         )
     }
 

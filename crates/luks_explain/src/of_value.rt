@@ -11,6 +11,7 @@ ghost use Rattle.luks_converting.specs.FaultTexts.{convert_fault_text};
 ghost use Rattle.luks_rebuilding.specs.FaultTexts.{rebuild_fault_text};
 ghost use Rattle.luks1_rebuilding.specs.FaultTexts.{rebuild_fault_text as rebuild1_fault_text};
 ghost use Rattle.luks_keeping.specs.FaultTexts.{backup_fault_text, restore_fault_text};
+ghost use Rattle.luks_wider.specs.WideFaults.{wide_fault_text};
 ghost use Rattle.luks_explain.specs.Names.{fault_named, name_in};
 
 use crate::fault::Fault;
@@ -21,6 +22,7 @@ use luks_keeping::{BackupFault, RestoreFault};
 use luks_reading::{AreaFault, CheckFault, HeadFault, KeyFault, MetaFault, OpenFault};
 use luks_rebuilding::RebuildFault;
 use luks_slot::SlotFault;
+use luks_wider::WideFault;
 use luks1_rebuilding::Rebuild1Fault;
 
 // That the device failed, and that memory was refused, is no fault of a volume, and has none.
@@ -60,6 +62,16 @@ impl Fault {
             MetaFault::AreaTooSmall(_) => Some(Fault::AreaTooSmall),
             MetaFault::Region(_) => Some(Fault::Region),
             MetaFault::Memory => None,
+        }
+    }
+
+    /// That of metadata in which something is under way.
+    pub fn of_wide(fault: &WideFault) -> Option<Fault>
+        ensures { result ≡ fault_named (name_in (wide_fault_text fault.now)) }
+    {
+        match fault {
+            WideFault::Meta(fault) => Fault::of_meta(fault),
+            WideFault::UnderWay(_) => Some(Fault::UnderWay),
         }
     }
 

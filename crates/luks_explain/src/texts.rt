@@ -24,11 +24,13 @@ pub(crate) fn means(fault: Fault) -> &'static str {
         Fault::Sizes => "LUKS2: json_size isn't that of the metadata's area",
         Fault::AreaTooSmall => "LUKS2: the area of keyslot N can't hold its stripes",
         Fault::Region => "LUKS2: a key area lies outside its region, or data within it",
+        Fault::UnderWay => "LUKS2: what is under way in the metadata contradicts itself",
         Fault::Outside => "an area ends past the volume's end",
         Fault::Overlap => "two areas share bytes, so that writing one destroys the other",
         Fault::NoSuchSlot => "the keyslot isn't there; of edits of LUKS1 also: it is disabled",
         Fault::SameSlot => "of remove: the keyslot of --by is that of --slot",
         Fault::SlotFree => "LUKS1: the keyslot is disabled",
+        Fault::NoKey => "the keyslot is the reencryption's own, and holds no key",
         Fault::Argon2 => "the keyslot derives by Argon2, with more memory than is allowed",
         Fault::Cipher => "the key area's cipher isn't aes-xts-plain64, nor one of --older",
         Fault::Hash => "a hash of the keyslot isn't sha1, sha256, sha512 or of --older",
@@ -67,6 +69,8 @@ pub(crate) fn means(fault: Fault) -> &'static str {
         Fault::OtherVolume => "another volume's header stands on what would be written over",
         Fault::OtherUse => "the disk has another use, which would be written over",
         Fault::Reencrypting => "cryptsetup is in the midst of reencrypting the volume",
+        Fault::Progressed => "of restore: the reencryption has gone on since the backup",
+        Fault::NotUnderWay => "of show --tables: nothing is under way in the volume",
     }
 }
 
@@ -98,7 +102,10 @@ pub(crate) fn place(fault: Fault) -> &'static str {
         }
         Fault::NotWhole => "anywhere in the metadata, as 1.0 or 1e2",
         Fault::Shape => "Shape(PATH): the member of the metadata, as keyslots.0.kdf",
-        Fault::Kind => "Kind(PATH): the type in the metadata, as keyslots.2.type",
+        Fault::Kind => {
+            "Kind(PATH): the type in the metadata, as keyslots.2.type; show and open
+       read those of a reencryption and of hw-opal"
+        }
         Fault::NoSuchName => "NoSuchName(PATH): the list in the metadata, as digests.0.keyslots",
         Fault::Assigned => {
             "Assigned(PATH): the list, as digests.0.keyslots; or the keyslot or
@@ -109,6 +116,10 @@ pub(crate) fn place(fault: Fault) -> &'static str {
         Fault::Region => {
             "Region(Slot(N)): keyslot N's area isn't in the region behind both copies;
        Region(Segment(N)): the data begins before that region's end"
+        }
+        Fault::UnderWay => {
+            "UnderWay(PATH), of show, open, backup and key: the part of the metadata,
+       as segments.1; of the same volume check answers Kind"
         }
         Fault::Outside => {
             "Outside(NAME): Head1 and Head2 (the header), Slot(N) (the area of keyslot
@@ -144,6 +155,7 @@ pub(crate) fn place(fault: Fault) -> &'static str {
         }
         Fault::SameSlot => "remove: the keyslots of --by and --slot",
         Fault::SlotFree => "open: the keyslot of --slot",
+        Fault::NoKey => "open and key: the keyslot of --slot, which luks show lists as reencrypt",
         Fault::Argon2 => {
             "open, add, change and remove: the keyslot of --slot or --by, of LUKS2;
        format, add and change: the new keyslot that --kdf chooses; LUKS1 has
@@ -242,6 +254,12 @@ pub(crate) fn place(fault: Fault) -> &'static str {
        VOLUME's, of convert and rebuild TARGET's; LUKS2, of the same but SOURCE:
        a keyslot of type reencrypt, or a requirement of that kind"
         }
+        Fault::Progressed => {
+            "restore: VOLUME, of the same uuid as FILE, whose header has another
+       sequence number or other metadata by now, or in which nothing is under
+       way any more"
+        }
+        Fault::NotUnderWay => "show --tables: VOLUME",
     }
 }
 
@@ -281,7 +299,8 @@ pub(crate) fn safe(fault: Fault) -> &'static str {
         | Fault::NoSuchName
         | Fault::Assigned
         | Fault::Sizes
-        | Fault::AreaTooSmall => {
+        | Fault::AreaTooSmall
+        | Fault::UnderWay => {
             "key areas and data: both checksums were right, so no disk failed here,
        but some program wrote it so"
         }
@@ -300,6 +319,7 @@ pub(crate) fn safe(fault: Fault) -> &'static str {
         | Fault::WrongKey
         | Fault::SameSlot
         | Fault::SlotFree
+        | Fault::NoKey
         | Fault::Locked
         | Fault::Passphrase
         | Fault::Requirements
@@ -329,7 +349,9 @@ pub(crate) fn safe(fault: Fault) -> &'static str {
         | Fault::DoesNotFit
         | Fault::OtherVolume
         | Fault::OtherUse
-        | Fault::Reencrypting => { "everything: nothing was written" }
+        | Fault::Reencrypting
+        | Fault::Progressed
+        | Fault::NotUnderWay => { "everything: nothing was written" }
         Fault::SameFile => "everything: nothing was written, or the bytes were put back",
         Fault::Argon2 => { "everything: the passphrase goes through Argon2, which takes memory" }
         Fault::Cipher | Fault::Hash | Fault::KeySize => {
@@ -402,17 +424,24 @@ pub(crate) fn next(fault: Fault) -> &'static str {
        backup"
         }
         Fault::Kind => {
-            "it is mostly a reencryption that broke off: restore no header backup.
-       Copy the first 32 MiB, then cryptsetup repair and cryptsetup reencrypt
-       --resume-only; but not where cryptsetup luksDump has one segment without
-       a flag, like that of backup-final, and your old keyslots unbound or gone:
-       all is done then, and it would begin anew. Else where cryptsetup opens
-       the volume it is right to"
+            "luks show lists it where it is a reencryption that broke off, luks open
+       tells which key each keyslot gives, and luks show --tables how the data
+       is read: restore no header backup from before. Copy its header by luks
+       backup, then cryptsetup repair and cryptsetup reencrypt --resume-only;
+       but not where luks show has one segment in use, like that of backup-final
+       and without in-reencryption, and your old keyslots unbound or gone: all
+       is done then, and it would begin anew. Else where cryptsetup opens the
+       volume it is right to"
         }
         Fault::Region => {
             "Region(Segment(0)) is mostly a detached header: give --detached; else
        where cryptsetup opens the volume it is right to; else restore a header
        backup"
+        }
+        Fault::UnderWay => {
+            "copy the first 32 MiB; where cryptsetup repair and cryptsetup reencrypt
+       --resume-only go on with it they are right to; put no backup back that
+       was made before it"
         }
         Fault::Outside => {
             "fetch an image that was cut off again, or set the partition to its old
@@ -430,6 +459,10 @@ pub(crate) fn next(fault: Fault) -> &'static str {
         Fault::SlotFree => {
             "luks show lists the keyslots that are enabled; open without --slot tries
        all"
+        }
+        Fault::NoKey => {
+            "luks show lists the keyslots: those with key-bytes hold a key; open
+       without --slot tries these alone"
         }
         Fault::Argon2 => {
             "the same command with --memory and the MiB that standard error says;
@@ -544,9 +577,18 @@ pub(crate) fn next(fault: Fault) -> &'static str {
             "let cryptsetup go on. LUKS1: in the folder where it was begun, with the
        files LUKS-UUID.log, .org and .new, by the same cryptsetup reencrypt;
        .log has how far it is, .org and .new the old and the new header: copy
-       the three and lose none. LUKS2: as luks explain Kind says; a backup from
-       before it loses what is done, and restore takes it by --over-reencryption
-       alone"
+       the three and lose none. LUKS2: luks show lists it, the rest is as luks
+       explain Kind says; a backup from before it loses what is done, and
+       restore takes it by --over-reencryption alone"
+        }
+        Fault::Progressed => {
+            "leave VOLUME its own header, and go on as luks explain Kind says: by an
+       older one all that was reencrypted since reads as noise; where VOLUME is
+       a copy of the disk as it was then, say --over"
+        }
+        Fault::NotUnderWay => {
+            "see whether it is the right volume; if it is, nothing broke off there:
+       luks show lists its segments, and cryptsetup open reads it"
         }
     }
 }

@@ -1,5 +1,5 @@
 //! The volumes of a command line.
-ghost use Rattle.std.specs.Prelude.{◌≡◌, ◌≢◌, ◌↔◌, false, true, Err, Ok, IfOk, IfSome, IsErr, IsOkAnd, IsTrue, None};
+ghost use Rattle.std.specs.Prelude.{◌≡◌, ◌≢◌, ◌↔◌, ◌+◌, ◌^◌, ◌<◌, false, true, Err, Ok, IfOk, IfSome, IsErr, IsOkAnd, IsTrue, None};
 ghost use Rattle.luks_guarded_files.specs.Cached.{cached_failures, changes_seen, device_behind};
 ghost use Rattle.luks_guarded_files.specs.Locked.{lock_of, share_for};
 ghost use Rattle.luks_files.specs.Opened.{beside_of};
@@ -15,9 +15,12 @@ use luks_guarded_files::{
     open_locked,
 };
 use luks_keeping::{BackupFault, backup_length};
+use luks_reading::{CheckFault, MetaFault, ReadFault};
 use luks_request::{BackingUp, Command, Line, Place};
+use luks_wide_keeping::underway_length;
+use luks_wide_reading::{WideHeader, WideReadFault, read_wide_header};
 use luks_window::Window;
-use std::alloc::AllocError;
+use std::alloc::{AllocError, Global};
 use std::cell::Cell;
 use std::fs::File;
 use std::rc::Rc;
@@ -253,6 +256,24 @@ fn length_of_backup<R: AllocGlobal + Clock + Files<File = File>>(
     match backup_length(rt.alloc(), &mut device, backing_up.payload) {
         Ok(length) => Ok(length),
         Err(BackupFault::Memory) => Err(InputFault::NoMemory),
+        Err(BackupFault::NotAccepted(CheckFault::Meta(_))) if !backing_up.rescue => {
+            length_under_way(rt.alloc(), &mut device)
+        }
+        Err(_) => Err(InputFault::Absent),
+    }
+}
+
+/// The same where something is under way in the volume's metadata; absent where nothing is.
+fn length_under_way(alloc: Global, device: &mut Volume) -> Result<u64, InputFault>
+    requires { cached_failures device.old + 1 < 2 ^ 64 }
+{
+    match read_wide_header(alloc, device) {
+        Ok(WideHeader::Underway(copy)) => match underway_length(device, &copy) {
+            Ok(length) => Ok(length),
+            Err(_) => Err(InputFault::Absent),
+        },
+        Ok(WideHeader::Narrow(_)) => Err(InputFault::Absent),
+        Err(WideReadFault::Read(ReadFault::Memory)) => Err(InputFault::NoMemory),
         Err(_) => Err(InputFault::Absent),
     }
 }

@@ -1,6 +1,7 @@
 //! What standard error says of what was found.
 
-use luks_commands::Answer;
+use luks_commands::{Answer, Refusal};
+use luks_reading::{CheckFault, MetaFault};
 use std::io::Write;
 
 /// Says what to do next with the volume that begins at this byte of the file, of which `check` answers
@@ -20,11 +21,32 @@ pub(crate) fn note_next<E: Write>(
             err,
             "luks: what is left of a LUKS1 header: luks rebuild {name} TARGET --offset {offset} .."
         );
+    } else if has_other_type(verdict) {
+        let _ = writeln!(
+            err,
+            "luks: luks show {name} --offset {offset} .., if a reencryption is under way"
+        );
     } else {
         let _ = writeln!(
             err,
             "luks: luks rebuild {name} TARGET --offset {offset} .., if its metadata is whole"
         );
+    }
+}
+
+/// Whether `check` refuses the volume by the type of an object, as where something is under way in it.
+fn has_other_type(verdict: &Answer) -> bool {
+    match verdict {
+        Answer::Refused(Refusal::Check(fault)) => is_of_type(fault),
+        _ => false,
+    }
+}
+
+/// Whether the fault is the type of an object of the metadata.
+fn is_of_type(fault: &CheckFault) -> bool {
+    match fault {
+        CheckFault::Meta(fault) => matches!(fault, MetaFault::Kind(_)),
+        _ => false,
     }
 }
 

@@ -13,7 +13,7 @@ use Rattle.luks_finding.specs.Starts.{volume_at, BeginsVolume, HasMetadata, IsAm
 use Rattle.luks_finding.specs.Telling.{first_copy, joined, second_copy, starts_of, FindsSize, FindsWhole, IsFirstAt, IsSecondAt, IsWholeAt, NamesSize}
 use Rattle.luks_finding.specs.declared.told.Told.{Told}
 use Rattle.luks_finding.specs.declared.told.Told.TheVariants.{Nothing, One, Two}
-use Rattle.luks_finding.proofs.MetadataFacts.{candidate-here, whole-one}
+use Rattle.luks_finding.proofs.MetadataFacts.{metadata-here, whole-one}
 use Rattle.luks_finding.proofs.SignFacts.{copy-named, copy-sound, sign-copy, sign-header, sign-metadata}
 use Rattle.luks_finding.proofs.ToldFacts.{header-there, second-there, sign-kind, whole-text}
 
@@ -94,7 +94,7 @@ signs-sound v p k size back none no_text named sound = signs-one v p (512 * k)
 pub texts-none : (v : List ℕ) (p h : ℕ) → p ≡ h + 4096 → BeginsText (part v p 8) → FindsWhole v h None → HasAllAt v p Nothing
 texts-none v p h behind text none = signs-none v p (λ s sign.
     let metadata : IsMetadataSign v s p = sign-metadata v s p text sign in
-    none metadata.copy.size (candidate-here v s h metadata.copy (header-there v s p h behind metadata) metadata.has.whole))
+    none metadata.copy.size (metadata-here v s h metadata.copy (header-there v s p h behind metadata) metadata.has.whole))
 
 -- too near to the disk's start for a binary header before it
 pub texts-early : (v : List ℕ) (p : ℕ) → p < 4096 → BeginsText (part v p 8) → HasAllAt v p Nothing
@@ -126,7 +126,7 @@ first-kind-none v h size whole none = λ s kind sign.
     let metadata : IsMetadataSign v s (h + 4096) = sign-metadata v s (h + 4096) (whole-text v h size whole) sign in
     let there : s + metadata.copy.at ≡ h = header-there v s (h + 4096) h refl metadata in
     let at : metadata.copy.at ≡ 0 = omega (arith, there, kind) in
-    let same : metadata.copy.size ≡ size = whole-one v h metadata.copy.size size (candidate-here v s h metadata.copy there metadata.has.whole) whole in
+    let same : metadata.copy.size ≡ size = whole-one v h metadata.copy.size size (metadata-here v s h metadata.copy there metadata.has.whole) whole in
     none (subst (λ (n : ℕ). HasMetadata v n (first_copy size)) kind (metadata-as v s metadata.copy (first_copy size) same at metadata.has))
 
 -- that of a second one
@@ -153,7 +153,7 @@ second-kind-none v h k size whole back none = λ s below sign.
     let metadata : IsMetadataSign v s (h + 4096) = sign-metadata v s (h + 4096) (whole-text v h size whole) sign in
     let there : s + metadata.copy.at ≡ h = header-there v s (h + 4096) h refl metadata in
     let behind : s + size ≡ h = second-there v s h size whole below sign in
-    let same : metadata.copy.size ≡ size = whole-one v h metadata.copy.size size (candidate-here v s h metadata.copy there metadata.has.whole) whole in
+    let same : metadata.copy.size ≡ size = whole-one v h metadata.copy.size size (metadata-here v s h metadata.copy there metadata.has.whole) whole in
     let at : metadata.copy.at ≡ size = omega (arith, there, behind) in
     let start : s ≡ 512 * k = omega (arith, behind, back) in
     none (subst (λ (n : ℕ). HasMetadata v n (second_copy size)) start (metadata-as v s metadata.copy (second_copy size) same at metadata.has))

@@ -2,6 +2,7 @@ pub mod AllSignsFacts
 pub mod BlockFacts
 pub mod CopyFacts
 pub mod ExplainedFacts
+pub mod FaultyFacts
 pub mod FurtherFacts
 pub mod HeadFacts
 pub mod ListFacts

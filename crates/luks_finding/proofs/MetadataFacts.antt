@@ -13,17 +13,17 @@ use Rattle.luks_area.specs.Ranges.{part}
 use Rattle.luks_area.proofs.RangeFacts.{get_or-part, length-part_inside, part-add, part-part}
 use Rattle.luks2_header.specs.Sizes.{listed_sizes, IsListed}
 use Rattle.luks2_header.proofs.CopyFacts.{among_pass, listed_at_least}
-use Rattle.luks_json.specs.AreaText.{Json, JsonText}
+use Rattle.luks_json.specs.AreaText.{IsBadJson, Json, JsonText}
 use Rattle.luks_json.proofs.AreaKinds.{kind_of}
-use Rattle.luks_rules.specs.MetaFault.{IsMetaFault}
-use Rattle.luks_rules.specs.Sizes.{json_size}
-use Rattle.luks_rules.specs.declared.fault.MetaFault.{MetaFault}
+use Rattle.luks_rules.specs.Sizes.{has_other_size, json_size}
 use Rattle.luks_rules.specs.declared.fault.MetaFault.TheVariants as fault
-use Rattle.luks_rebuilding.specs.Candidates.{json_of, IsCandidate}
+use Rattle.luks_wider.specs.Wide.{HasUnderWay, IsWiderFault}
+use Rattle.luks_wider.specs.declared.fault.WideFault.{WideFault}
+use Rattle.luks_wider.specs.declared.fault.WideFault.TheVariants.{Meta}
+use Rattle.luks_rebuilding.specs.Candidates.{json_of}
 use Rattle.luks_rebuilding.specs.declared.place.Place.{Place}
-use Rattle.luks_rebuilding.specs.declared.place.Copies.TheVariants.{Any}
 use Rattle.luks_finding.specs.Blocks.{BeginsText, HasText}
-use Rattle.luks_finding.specs.Starts.{volume_at}
+use Rattle.luks_finding.specs.Starts.{volume_at, IsWholeCopy}
 use Rattle.luks_finding.specs.Telling.{first_copy, IsMemoryOnly, IsWholeAt}
 use Rattle.luks_finding.specs.declared.find_fault.FindFault.{FindFault}
 use Rattle.luks_finding.specs.declared.find_fault.FindFault.TheVariants as find
@@ -37,15 +37,31 @@ listed-sectors size listed = eqb-true (512 * (size / 512)) size (among_pass (λ 
 
 -- the area is one without a fault
 abbrev pub IsFaultless : List ℕ → Type 0
-IsFaultless area = (f : MetaFault) → IsMetaFault area f → ⊥
+IsFaultless area = (f : WideFault) → IsWiderFault area f → ⊥
+
+-- what is a fault whether something is under way or not, is none of it
+none-bad : (area : List ℕ) → IsFaultless area → IsBadJson area → ⊥
+none-bad area faultless bad =
+    let settled : HasUnderWay area → ⊥ = λ has. faultless (Meta fault.BadJson) (IsWiderFault.under_way has bad) in
+    faultless (Meta fault.BadJson) (IsWiderFault.narrow settled bad)
+
+none-empty : (area : List ℕ) → IsFaultless area → ((text : List ℕ) → JsonText area text → ⊥) → ⊥
+none-empty area faultless none =
+    let settled : HasUnderWay area → ⊥ = λ has. faultless (Meta fault.JsonArea) (IsWiderFault.under_way has none) in
+    faultless (Meta fault.JsonArea) (IsWiderFault.narrow settled none)
+
+none-sized : (area : List ℕ) (j : Data) → IsFaultless area → Json area j → has_other_size (length area) j ≡ true → ⊥
+none-sized area j faultless json other =
+    let settled : HasUnderWay area → ⊥ = λ has. faultless (Meta fault.Sizes) (IsWiderFault.under_way has (record { value = j; json = json; fault = other })) in
+    faultless (Meta fault.Sizes) (IsWiderFault.narrow settled (record { value = j; json = json; fault = other }))
 
 -- it holds a value
 area-value : (area : List ℕ) → IsFaultless area → (j : Data) × Json area j
 area-value area faultless = elim (kind_of area) [
   | inl value ↦ value
   | inr other ↦ elim other [
-    | inl bad ↦ absurd (faultless fault.BadJson bad)
-    | inr none ↦ absurd (faultless fault.JsonArea none)
+    | inl bad ↦ absurd (none-bad area faultless bad)
+    | inr none ↦ absurd (none-empty area faultless none)
   ]
 ]
 
@@ -58,7 +74,7 @@ sized-of len (Some n) other = elim (cases_Bool (n == len)) [
 
 -- which says how long the area is
 value-sized : (area : List ℕ) (j : Data) → IsFaultless area → Json area j → json_size j ≡ Some (length area)
-value-sized area j faultless json = sized-of (length area) (json_size j) (λ other. faultless fault.Sizes (record { value = j; json = json; fault = other }))
+value-sized area j faultless json = sized-of (length area) (json_size j) (λ other. none-sized area j faultless json other)
 
 -- ---- texts
 
@@ -142,15 +158,15 @@ last-zero v text at len some inside j =
     get_or-part v p 1 k (omega (arith, first)) ∙ ap (λ n. get_or v n 0) (omega (arith, first)) ∙ here ∙ ap (λ n. get_or (0 ∷ []) n 0) (sym first))
 
 -- a copy with whole metadata lies inside
-pub candidate-inside : (v : List ℕ) (s : ℕ) (place : Place) → IsCandidate (volume_at v s) Any place → s + place.at + place.size ≤ length v
-candidate-inside v s place whole =
+pub metadata-inside : (v : List ℕ) (s : ℕ) (place : Place) → IsWholeCopy (volume_at v s) place → s + place.at + place.size ≤ length v
+metadata-inside v s place whole =
     let inside : place.at + place.size ≤ length v - s = subst (λ (n : ℕ). place.at + place.size ≤ n) (length-drop s v) whole.is_place.inside in
     let least : 16384 ≤ place.size = listed_at_least place.size whole.is_place.listed in
     omega (arith, inside, least)
 
 -- its area begins with a brace
-pub candidate-brace : (v : List ℕ) (s : ℕ) (place : Place) → IsCandidate (volume_at v s) Any place → part v (s + place.at + 4096) 1 ≡ codes "{"
-candidate-brace v s place whole =
+pub metadata-brace : (v : List ℕ) (s : ℕ) (place : Place) → IsWholeCopy (volume_at v s) place → part v (s + place.at + 4096) 1 ≡ codes "{"
+metadata-brace v s place whole =
     let area : List ℕ = json_of (volume_at v s) place in
     let least : 16384 ≤ place.size = listed_at_least place.size whole.is_place.listed in
     let value = area-value area whole.faultless in
@@ -171,11 +187,11 @@ begins-text v p inside brace =
       brace = part-part v p 8 0 1 (omega arith) ∙ ap (λ q. part v q 1) here ∙ brace;
     }
 
-pub candidate-text : (v : List ℕ) (s : ℕ) (place : Place) → IsCandidate (volume_at v s) Any place → BeginsText (part v (s + place.at + 4096) 8)
-candidate-text v s place whole =
-    let inside : s + place.at + place.size ≤ length v = candidate-inside v s place whole in
+pub metadata-text : (v : List ℕ) (s : ℕ) (place : Place) → IsWholeCopy (volume_at v s) place → BeginsText (part v (s + place.at + 4096) 8)
+metadata-text v s place whole =
+    let inside : s + place.at + place.size ≤ length v = metadata-inside v s place whole in
     let least : 16384 ≤ place.size = listed_at_least place.size whole.is_place.listed in
-    begins-text v (s + place.at + 4096) (omega (arith, inside, least)) (candidate-brace v s place whole)
+    begins-text v (s + place.at + 4096) (omega (arith, inside, least)) (metadata-brace v s place whole)
 
 -- where an area begins with a brace, a text begins at a sector
 pub has-text : (v : List ℕ) (k : ℕ) (place : Place) → IsListed place.size → (place.at ≡ 0) ⊎ (place.at ≡ place.size)
@@ -194,57 +210,56 @@ has-text v k place listed half inside brace =
     place-sectors place listed (inr second) = ap (λ n. 512 * (n / 512)) second ∙ listed-sectors place.size listed ∙ sym second
 
 -- a copy that lies inside has whole metadata exactly where the area that was read has no fault
-pub candidate-of : (v json : List ℕ) (s : ℕ) (place : Place) → IsListed place.size → (place.at ≡ 0) ⊎ (place.at ≡ place.size)
+pub metadata-of : (v json : List ℕ) (s : ℕ) (place : Place) → IsListed place.size → (place.at ≡ 0) ⊎ (place.at ≡ place.size)
     → s + place.at + place.size ≤ length v → json ≡ part v (s + place.at + 4096) (place.size - 4096)
-    → IsFaultless json → IsCandidate (volume_at v s) Any place
-candidate-of v json s place listed half inside is faultless =
+    → IsFaultless json → IsWholeCopy (volume_at v s) place
+metadata-of v json s place listed half inside is faultless =
     let N : ℕ → Type 0 = λ n. place.at + place.size ≤ n in
     record {
       is_place = record { listed = listed; first_or_second = half; inside = subst N (sym (length-drop s v)) (omega (arith, inside)) };
-      asked = tt;
       faultless = subst IsFaultless (is ∙ sym (area-of v s place)) faultless;
     }
 
-pub candidate-faultless : (v json : List ℕ) (s : ℕ) (place : Place) → json ≡ part v (s + place.at + 4096) (place.size - 4096)
-    → IsCandidate (volume_at v s) Any place → IsFaultless json
-candidate-faultless v json s place is whole = subst IsFaultless (sym (is ∙ sym (area-of v s place))) whole.faultless
+pub metadata-faultless : (v json : List ℕ) (s : ℕ) (place : Place) → json ≡ part v (s + place.at + 4096) (place.size - 4096)
+    → IsWholeCopy (volume_at v s) place → IsFaultless json
+metadata-faultless v json s place is whole = subst IsFaultless (sym (is ∙ sym (area-of v s place))) whole.faultless
 
 -- whatever has no fault holds a text
-pub candidate-holds : (v : List ℕ) (s : ℕ) (place : Place) → IsCandidate (volume_at v s) Any place
+pub metadata-holds : (v : List ℕ) (s : ℕ) (place : Place) → IsWholeCopy (volume_at v s) place
     → (text : List ℕ) × JsonText (part v (s + place.at + 4096) (place.size - 4096)) text
-candidate-holds v s place whole =
+metadata-holds v s place whole =
     let value = area-value (json_of (volume_at v s) place) whole.faultless in
     (value.1.text, subst (λ (area : List ℕ). JsonText area value.1.text) (area-of v s place) value.1.placed)
 
 -- a copy that begins at the place `h` is whole for the volume that begins there, and for the one that begins so far before
-pub candidate-here : (v : List ℕ) (s h : ℕ) (copy : Place) → s + copy.at ≡ h → IsCandidate (volume_at v s) Any copy → IsWholeAt v h copy.size
-candidate-here v s h copy there whole =
-    let inside : s + copy.at + copy.size ≤ length v = candidate-inside v s copy whole in
+pub metadata-here : (v : List ℕ) (s h : ℕ) (copy : Place) → s + copy.at ≡ h → IsWholeCopy (volume_at v s) copy → IsWholeAt v h copy.size
+metadata-here v s h copy there whole =
+    let inside : s + copy.at + copy.size ≤ length v = metadata-inside v s copy whole in
     let area : List ℕ = part v (s + copy.at + 4096) (copy.size - 4096) in
     let same : s + copy.at + 4096 ≡ h + 0 + 4096 = omega (arith, there) in
     record {
-      whole = candidate-of v area h (first_copy copy.size) whole.is_place.listed (inl refl) (omega (arith, there, inside))
-          (ap (λ p. part v p (copy.size - 4096)) same) (candidate-faultless v area s copy refl whole);
+      whole = metadata-of v area h (first_copy copy.size) whole.is_place.listed (inl refl) (omega (arith, there, inside))
+          (ap (λ p. part v p (copy.size - 4096)) same) (metadata-faultless v area s copy refl whole);
     }
 
-pub candidate-there : (v : List ℕ) (s h : ℕ) (copy : Place) → (copy.at ≡ 0) ⊎ (copy.at ≡ copy.size) → s + copy.at ≡ h → IsWholeAt v h copy.size
-    → IsCandidate (volume_at v s) Any copy
-candidate-there v s h copy half there is =
+pub metadata-there : (v : List ℕ) (s h : ℕ) (copy : Place) → (copy.at ≡ 0) ⊎ (copy.at ≡ copy.size) → s + copy.at ≡ h → IsWholeAt v h copy.size
+    → IsWholeCopy (volume_at v s) copy
+metadata-there v s h copy half there is =
     let first : Place = first_copy copy.size in
-    let inside : h + 0 + copy.size ≤ length v = candidate-inside v h first is.whole in
+    let inside : h + 0 + copy.size ≤ length v = metadata-inside v h first is.whole in
     let area : List ℕ = part v (h + 0 + 4096) (copy.size - 4096) in
     let same : h + 0 + 4096 ≡ s + copy.at + 4096 = omega (arith, there) in
-    candidate-of v area s copy is.whole.is_place.listed half (omega (arith, there, inside))
-    (ap (λ p. part v p (copy.size - 4096)) same) (candidate-faultless v area h first refl is.whole)
+    metadata-of v area s copy is.whole.is_place.listed half (omega (arith, there, inside))
+    (ap (λ p. part v p (copy.size - 4096)) same) (metadata-faultless v area h first refl is.whole)
 
 whole-below : (v : List ℕ) (h m n : ℕ) → m ≤ n → IsWholeAt v h m → IsWholeAt v h n → m ≡ n
 whole-below v h m n le left right =
     let small : 16384 ≤ m = listed_at_least m left.whole.is_place.listed in
-    let inside : h + 0 + n ≤ length v = candidate-inside v h (first_copy n) right.whole in
+    let inside : h + 0 + n ≤ length v = metadata-inside v h (first_copy n) right.whole in
     let p : ℕ = h + 0 + 4096 in
     let same : m - 4096 ≡ n - 4096 = one-length v p (m - 4096) (n - 4096) (omega (arith, le)) (omega (arith, inside, small, le))
-    (candidate-faultless v (part v p (m - 4096)) h (first_copy m) refl left.whole)
-    (candidate-faultless v (part v p (n - 4096)) h (first_copy n) refl right.whole) in
+    (metadata-faultless v (part v p (m - 4096)) h (first_copy m) refl left.whole)
+    (metadata-faultless v (part v p (n - 4096)) h (first_copy n) refl right.whole) in
     omega (arith, same, small, le)
 
 -- and it has one size

@@ -15,7 +15,7 @@ use Rattle.luks_finding.specs.Blocks.{BeginsFields, BeginsSecond, BeginsText, Ma
 use Rattle.luks_finding.specs.Starts.{volume_at, BeginsHeader, BeginsLuks1, BeginsVolume, HasSignBefore, IsCopySign, IsMetadataSign, IsSign}
 use Rattle.luks_finding.specs.Telling.{HasNearer, NamesSize}
 use Rattle.luks_finding.proofs.CopyFacts.{listed-some, part-volume, sound-inside}
-use Rattle.luks_finding.proofs.MetadataFacts.{candidate-text, listed-sectors}
+use Rattle.luks_finding.proofs.MetadataFacts.{metadata-text, listed-sectors}
 
 -- a copy begins at a multiple of 16384, its size or 0
 listed-large : (size : ℕ) → IsListed size → 16384 * (size / 16384) ≡ size
@@ -73,7 +73,7 @@ second-begins v s p sign =
 
 -- a JSON area that is a sign begins as one
 text-begins : (v : List ℕ) (s p : ℕ) → IsMetadataSign v s p → BeginsText (part v p 8)
-text-begins v s p sign = subst (λ (k : ℕ). BeginsText (part v k 8)) (sym sign.there) (candidate-text v s sign.copy sign.has.whole)
+text-begins v s p sign = subst (λ (k : ℕ). BeginsText (part v k 8)) (sym sign.there) (metadata-text v s sign.copy sign.has.whole)
 
 -- the fields of a LUKS1 header begin so
 fields-begin : (v : List ℕ) (s : ℕ) → BeginsLuks1 v s → BeginsFields (part v s 112)

@@ -14,7 +14,7 @@ use Rattle.luks_finding.specs.Telling.{first_copy, joined, second_copy, FindsSiz
 use Rattle.luks_finding.specs.declared.told.Told.TheVariants.{Nothing, One, Two}
 use Rattle.luks_finding.proofs.CopyFacts.{listed-some}
 use Rattle.luks_finding.proofs.ExplainedFacts.{explained-as}
-use Rattle.luks_finding.proofs.MetadataFacts.{candidate-here, candidate-text, candidate-there, whole-one}
+use Rattle.luks_finding.proofs.MetadataFacts.{metadata-here, metadata-text, metadata-there, whole-one}
 use Rattle.luks_finding.proofs.SignFacts.{before-nearer, copy-named, copy-sound, nearer-before, sign-copy, sign-header, sign-metadata}
 
 -- ---- lists of none, one and two
@@ -190,13 +190,13 @@ text-header v p h behind text begins = told-nothing v p (λ s sign.
 pub text-none : (v : List ℕ) (p h : ℕ) → p ≡ h + 4096 → BeginsText (part v p 8) → FindsWhole v h None → TellsAt v p Nothing
 text-none v p h behind text none = told-nothing v p (λ s sign.
     let metadata : IsMetadataSign v s p = sign-metadata v s p text sign in
-    absurd (none metadata.copy.size (candidate-here v s h metadata.copy (header-there v s p h behind metadata) metadata.has.whole)))
+    absurd (none metadata.copy.size (metadata-here v s h metadata.copy (header-there v s p h behind metadata) metadata.has.whole)))
 
 -- a JSON area with whole metadata begins as one
 pub whole-text : (v : List ℕ) (h size : ℕ) → IsWholeAt v h size → BeginsText (part v (h + 4096) 8)
 whole-text v h size is =
     let same : h + 0 + 4096 ≡ h + 4096 = omega arith in
-    subst (λ (k : ℕ). BeginsText (part v k 8)) same (candidate-text v h (first_copy size) is.whole)
+    subst (λ (k : ℕ). BeginsText (part v k 8)) same (metadata-text v h (first_copy size) is.whole)
 
 -- the first bytes that were read
 pub front-of : (v beginning : List ℕ) (h : ℕ) → beginning ≡ part v h 8 → part beginning 0 6 ≡ part v h 6
@@ -228,7 +228,7 @@ first-another v h size whole is = λ s kind sign.
     let metadata : IsMetadataSign v s (h + 4096) = sign-metadata v s (h + 4096) (whole-text v h size whole) sign in
     let there : s + metadata.copy.at ≡ h = header-there v s (h + 4096) h refl metadata in
     let at : 0 ≡ metadata.copy.at = omega (arith, there, kind) in
-    let same : metadata.copy.size ≡ size = whole-one v h metadata.copy.size size (candidate-here v s h metadata.copy there metadata.has.whole) whole in
+    let same : metadata.copy.size ≡ size = whole-one v h metadata.copy.size size (metadata-here v s h metadata.copy there metadata.has.whole) whole in
     absurd (metadata.has.unexplained (explained-as v h s (first_copy size) metadata.copy (sym kind) (sym same) at is))
 
 -- and where nothing of these holds
@@ -273,7 +273,7 @@ second-there v s h size whole below sign =
     let p : ℕ = h + 4096 in
     let metadata : IsMetadataSign v s p = sign-metadata v s p (whole-text v h size whole) sign in
     let there : s + metadata.copy.at ≡ h = header-there v s p h refl metadata in
-    let same : metadata.copy.size ≡ size = whole-one v h metadata.copy.size size (candidate-here v s h metadata.copy there metadata.has.whole) whole in
+    let same : metadata.copy.size ≡ size = whole-one v h metadata.copy.size size (metadata-here v s h metadata.copy there metadata.has.whole) whole in
     elim metadata.has.whole.is_place.first_or_second [
       | inl first ↦ absurd (omega (arith, there, first, below))
       | inr second ↦ omega (arith, there, second, same)
@@ -316,7 +316,7 @@ pub second-another : (v : List ℕ) (h k size : ℕ) → IsWholeAt v h size → 
 second-another v h k size whole back is = λ s below sign.
     let metadata : IsMetadataSign v s (h + 4096) = sign-metadata v s (h + 4096) (whole-text v h size whole) sign in
     let there : s + metadata.copy.at ≡ h = header-there v s (h + 4096) h refl metadata in
-    let same : metadata.copy.size ≡ size = whole-one v h metadata.copy.size size (candidate-here v s h metadata.copy there metadata.has.whole) whole in
+    let same : metadata.copy.size ≡ size = whole-one v h metadata.copy.size size (metadata-here v s h metadata.copy there metadata.has.whole) whole in
     elim metadata.has.whole.is_place.first_or_second [
       | inl first ↦ absurd (omega (arith, there, first, below))
       | inr second ↦
@@ -344,7 +344,7 @@ second-told v beginning h k size whole back read own unsound far alone =
             copy = copy;
             there = ap (λ n. n + 4096) (sym back);
             has = record {
-              whole = candidate-there v start h copy (inr refl) back whole;
+              whole = metadata-there v start h copy (inr refl) back whole;
               own = λ magic. own (front-of v beginning h read ∙ ap (λ n. part v n 6) (sym back) ∙ magic ∙ other);
               unexplained = alone;
             };

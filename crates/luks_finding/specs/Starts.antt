@@ -8,9 +8,10 @@ use Rattle.luks1_mending.specs.Taken.{IsUsable}
 use Rattle.luks_signatures.specs.Reencryption.{reencrypting_magic}
 use Rattle.luks2_header.specs.Header2.{binary_header_size, hdr_size, header_at, second_magic, IsSound}
 use Rattle.luks2_header.specs.Sizes.{IsListed}
-use Rattle.luks_rebuilding.specs.Candidates.{IsCandidate}
+use Rattle.luks_wider.specs.Wide.{IsWiderFault}
+use Rattle.luks_wider.specs.declared.fault.WideFault.{WideFault}
+use Rattle.luks_rebuilding.specs.Candidates.{json_of, IsPlace}
 use Rattle.luks_rebuilding.specs.declared.place.Place.{Place}
-use Rattle.luks_rebuilding.specs.declared.place.Copies.TheVariants.{Any}
 
 -- the bytes of a sector
 abbrev pub sector_size : ℕ
@@ -94,11 +95,17 @@ pub record IsExplained (v : List ℕ) (s : ℕ) (copy : Place) : Type 0 where
   pub sound : IsSoundOf (volume_at v start) copy.size at
   pub there : start + copy.size ≡ s + copy.at + at
 
--- the copy of the volume that begins at `s` has metadata that is whole, as `rebuild` takes it. A JSON area doesn't say of
--- which copy it is: it counts for none of one where the magic of the other stands before it, or where a sound copy says
--- that it is the other copy of another volume.
+-- the JSON area of the copy of the volume `w` has none of the faults of metadata: by the rules of what is under way, where
+-- something is
+pub record IsWholeCopy (w : List ℕ) (copy : Place) : Type 0 where
+  pub is_place : IsPlace (length w) copy
+  pub faultless : (f : WideFault) → IsWiderFault (json_of w copy) f → ⊥
+
+-- the copy of the volume that begins at `s` has metadata that is whole. A JSON area doesn't say of which copy it is: it
+-- counts for none of one where the magic of the other stands before it, or where a sound copy says that it is the other
+-- copy of another volume.
 pub record HasMetadata (v : List ℕ) (s : ℕ) (copy : Place) : Type 0 where
-  pub whole : IsCandidate (volume_at v s) Any copy
+  pub whole : IsWholeCopy (volume_at v s) copy
   pub own : part v (s + copy.at) 6 ≡ other_magic copy.at → ⊥
   pub unexplained : IsExplained v s copy → ⊥
 

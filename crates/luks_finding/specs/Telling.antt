@@ -3,11 +3,9 @@ use Rattle.std.specs.Prelude.{◌≡◌, ◌⊎◌, ℕ, ◌+◌, ◌<◌, ◌�
 use Rattle.luks_area.specs.Ranges.{part}
 use Rattle.luks2_header.specs.Header2.{binary_header_size, hdr_size, IsSound}
 use Rattle.luks2_header.specs.Sizes.{IsListed}
-use Rattle.luks_rebuilding.specs.Candidates.{IsCandidate}
 use Rattle.luks_rebuilding.specs.declared.place.Place.{Place}
-use Rattle.luks_rebuilding.specs.declared.place.Copies.TheVariants.{Any}
 use Rattle.luks_finding.specs.Blocks.{HasText}
-use Rattle.luks_finding.specs.Starts.{volume_at, BeginsVolume, HasMetadata, HasSignBefore, IsAmong, IsFirstSign, IsSign}
+use Rattle.luks_finding.specs.Starts.{volume_at, BeginsVolume, HasMetadata, HasSignBefore, IsAmong, IsFirstSign, IsSign, IsWholeCopy}
 use Rattle.luks_finding.specs.declared.find_fault.FindFault.{FindFault}
 use Rattle.luks_finding.specs.declared.find_fault.FindFault.TheVariants.{Memory, Device}
 use Rattle.luks_finding.specs.declared.told.Told.{Told}
@@ -97,7 +95,7 @@ FindsSize v p (Some size) = NamesSize v p size
 
 -- the size of a copy that begins at the place `h` and has whole metadata
 pub record IsWholeAt (v : List ℕ) (h size : ℕ) : Type 0 where
-  pub whole : IsCandidate (volume_at v h) Any (first_copy size)
+  pub whole : IsWholeCopy (volume_at v h) (first_copy size)
 
 -- that size, or that there is none
 abbrev pub FindsWhole : List ℕ → ℕ → Option ℕ → Type 0

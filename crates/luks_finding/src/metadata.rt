@@ -4,19 +4,18 @@ ghost use Rattle.luks_area.specs.Device.{CountsFailure, IsUnchanged, is_failure}
 ghost use Rattle.luks_area.specs.Ranges.{part};
 ghost use Rattle.luks2_header.specs.Sizes.{IsListed};
 ghost use Rattle.luks_json.specs.AreaText.{JsonText};
-ghost use Rattle.luks_meta.specs.MetaFault.{IsMetaFault};
-ghost use Rattle.luks_rebuilding.specs.Candidates.{IsCandidate};
-ghost use Rattle.luks_rebuilding.specs.declared.place.Copies.TheVariants.{Any};
-ghost use Rattle.luks_finding.specs.Faults.{is_find_failure};
-ghost use Rattle.luks_finding.specs.Starts.{volume_at};
+ghost use Rattle.luks_wider.specs.Wide.{IsWiderFault};
+ghost use Rattle.luks_finding.specs.Faults.{faulty, is_find_failure};
+ghost use Rattle.luks_finding.specs.Starts.{volume_at, IsWholeCopy};
 ghost use Rattle.luks_finding.specs.Telling.{IsMemoryOnly};
 
 use crate::find_fault::FindFault;
 use crate::second_copies::HEAD;
 use crate::signs::SECTOR;
 use luks_area::{Device, DeviceFault};
-use luks_meta::{Meta, MetaFault};
 use luks_rebuilding::Place;
+use luks_rules::MetaFault;
+use luks_wider::{WideFault, read_wider};
 use std::alloc::Global;
 
 /// Whether the volume that begins at the sector `sector` has whole metadata in the copy at the place.
@@ -36,7 +35,7 @@ pub(crate) fn is_whole<D: Device>(
     ensures unchanged { IsUnchanged D.tells D.size D.bytes D.unsettled device.old device.new }
     ensures count { CountsFailure is_find_failure result (D.failed device.old) (D.failed device.new) }
     ensures whole { D.tells → IfOk result
-        (λ is. IsTrue is ↔ IsCandidate (volume_at (D.bytes device.old) (512 * sector)) Any place) }
+        (λ is. IsTrue is ↔ IsWholeCopy (volume_at (D.bytes device.old) (512 * sector)) place) }
     ensures within { IfOk result
         (λ is. IsTrue is → 512 * sector + place.at + place.size ≤ D.size device.old) }
     ensures memory { D.tells → IfErr result (IsMemoryOnly (D.bytes device.old)) }
@@ -98,15 +97,25 @@ fn read_area<D: Device>(
     Ok(bytes)
 }
 
-/// Whether a JSON area has none of the faults of metadata. Fails only where memory was refused.
+/// Whether a JSON area has none of the faults of metadata, by the rules of what is under way, where something
+/// is. Fails only where memory was refused.
 fn is_faultless(alloc: Global, json: &[u8]) -> Result<bool, FindFault>
     ensures faultless { IfOk result
-        (λ is. IsTrue is ↔ ((f : MetaFault) → IsMetaFault json.now f → ⊥)) }
+        (λ is. IsTrue is ↔ ((f : WideFault) → IsWiderFault json.now f → ⊥)) }
     ensures refused { IfErr result (λ fault. fault ≡ FindFault.Memory) }
 {
-    match Meta::read(alloc, json) {
-        Ok(_) => Ok(true),
-        Err(MetaFault::Memory) => Err(FindFault::Memory),
-        Err(_) => Ok(false),
+    let Err(fault) = read_wider(alloc, json) else {
+        return Ok(true);
+    };
+    faulty(fault)
+}
+
+/// Whether metadata that is refused by this fault has none: it has, but that want of memory leaves it open.
+fn faulty(fault: WideFault) -> Result<bool, FindFault>
+    ensures { result ≡ faulty fault }
+{
+    match fault {
+        WideFault::Meta(MetaFault::Memory) => Err(FindFault::Memory),
+        _ => Ok(false),
     }
 }

@@ -94,12 +94,21 @@ At most one of these is given:
           bytes: place, length, what it is. Those that end past the volume are
           marked 'outside', those that have bytes and begin inside one above
           'overlap'
+  --tables
+          of a volume in the midst of a reencryption a line of dmsetup's for
+          each segment, in sectors of 512 bytes, KEY-D in place of the key of
+          digest D: by these the data is read where cryptsetup can't go on
   --json  one JSON object on one line, with all that the lines tell and more,
           and every place in bytes
 
+A volume in the midst of a reencryption is shown too, and one of a disk that
+encrypts itself (hw-opal): the lines 'requirements', of the keyslot 'reencrypt'
+and of segments with 'flags' say what is under way.
+
 Or it prints, in each form:
   refused FAULT  the first fault of the header; whether areas lie inside the
-                 volume and apart isn't judged
+                 volume and apart isn't judged. Of --tables also
+                 NotUnderWay: nothing is under way
   device fault   the volume can't be read
   no memory      memory was refused
 
@@ -141,6 +150,10 @@ The header names the memory of Argon2, 1024 MiB for most volumes, and anybody
 may have written it: so none is taken but by --memory. Standard error says how
 much a keyslot takes that was refused.
 
+Of a volume in the midst of a reencryption standard error says of each keyslot
+that opens which key it gives, the old one or the new one, and where none gives
+one of them: cryptsetup, which asks for both by one passphrase, fails then.
+
 With --key no keyslot is tried: FILE is a volume key, all its bytes, and is
 compared with the digest that the header has of its key; of LUKS2 with that of
 segment 0, or by --digest with another, and standard error names it.
@@ -152,8 +165,9 @@ Prints one line:
   key matches           the key is the volume's
   key does not match    it is another
   refused FAULT         why it can't be tried, as Passphrase (the file is too
-                        long), SlotFree, NoSuchSlot, Argon2, Cipher, Hash,
-                        NoSuchDigest or KeyLength (of another length)
+                        long), SlotFree, NoSuchSlot, NoKey (a reencryption's
+                        own), Argon2, Cipher, Hash, NoSuchDigest or
+                        KeyLength (of another length)
   device fault          a file can't be read
   no memory             memory was refused; of Argon2 standard error says how
                         much was asked for

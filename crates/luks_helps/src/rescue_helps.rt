@@ -65,6 +65,11 @@ With --rescue a key area that can't be read doesn't end it, on a disk that is
 failing: FILE has zeros for each sector of 512 bytes that can't be read, and all
 else. The header itself has to be read.
 
+Of a volume in the midst of a reencryption, which check refuses, the header and
+all the key areas' region are copied, without --rescue. Standard error says that
+this is a backup of one moment: once the reencryption went on, restoring it
+destroys data.
+
 Prints one line:
   done           the backup is made
   rescued        with --rescue: it is made, but for sectors of key areas. A
@@ -103,18 +108,20 @@ that counts and has another uuid and another digest of the volume key, with
 --other or --over alone; another use of the disk, as a file system or a
 partition table, where no header of the same volume counts, with --over alone;
 and the metadata of a reencryption that isn't finished with --over-reencryption
-alone: what was reencrypted already can't be read then. Written are, with a
-flush after each: zeros over the first 512 bytes of the header's place, and of
-those where an older second copy begins; the key areas; of LUKS2 the second copy
-of the header; the first one, or the only one.
+alone: what was reencrypted already can't be read then. A backup that was made
+in the midst of one isn't put back where that went on since, or ended, but with
+--over. Written are, with a flush after each: zeros over the first 512 bytes of
+the header's place, and of those where an older second copy begins; the key
+areas; of LUKS2 the second copy of the header; the first one, or the only one.
 
 Prints one line:
   done           the backup is restored
   refused FAULT  the first fault, and nothing was written: SameFile (FILE is
                  VOLUME), NotAccepted(FAULT) (check --detached refuses FILE by
                  that), DoesNotFit(FAULT) (check would refuse VOLUME by that),
-                 OtherVolume (as above), and before these Reencrypting or
-                 OtherUse(NAME) (what stands on VOLUME, as above)
+                 OtherVolume or Progressed (as above), and before these
+                 Reencrypting or OtherUse(NAME) (what stands on VOLUME, as
+                 above)
   device fault   a file can't be read, or VOLUME read or written
   no memory      memory was refused; nothing was written
 
@@ -146,8 +153,9 @@ Prints a line, and then one for each keyslot of either:
 or:
   refused FAULT      SameFile (FILE is VOLUME), NotAccepted(FAULT) (check
                      --detached refuses FILE by that), what check refuses of
-                     VOLUME, or OtherVolume (the uuid and the digest of the
-                     volume key are other ones)
+                     VOLUME, OtherVolume (the uuid and the digest of the
+                     volume key are other ones), or Progressed (FILE was made
+                     in the midst of a reencryption, which went on since)
   device fault       a file can't be read
   no memory          memory was refused
 

@@ -139,8 +139,9 @@ pub(crate) fn fitting_size(header: &Header, payload: Data, total: u64) -> Result
     }
 }
 
-/// Writes zeros over the whole backup, and then what is kept.
-fn write_backup<S: Device, T: Device>(
+/// Writes zeros over the first `size` bytes of the target, and then what stands at these places of the source,
+/// each at its own place, a flush after each.
+pub fn write_backup<S: Device, T: Device>(
     source: &mut S,
     target: &mut T,
     places: &Places,

@@ -77,8 +77,8 @@ fn judged<B: Device, T: Device>(
     }
 }
 
-/// Whether both areas hold the same bytes.
-fn are_alike<B: Device, T: Device>(
+/// Whether an area of the one device and one of the other hold the same bytes. Nothing is written.
+pub fn are_alike<B: Device, T: Device>(
     backup: &mut B,
     here: Area,
     target: &mut T,

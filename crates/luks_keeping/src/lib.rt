@@ -30,10 +30,10 @@ mod wiping;
 mod writing_over;
 
 pub use accepted::accepted_header;
-pub use backing_up::{backup, backup_length};
+pub use backing_up::{backup, backup_length, write_backup};
 pub use backup_fault::BackupFault;
 pub use comparing::compare;
-pub use comparing_areas::compare_areas;
+pub use comparing_areas::{are_alike, compare_areas};
 pub use comparison::{Comparison, Keeping};
 pub use laws::{
     kept_keyslots_answer_alike, kept_of_kept_is_kept, restored_backup_gives_back,
@@ -42,7 +42,9 @@ pub use laws::{
 pub use lost::LostKeyslots;
 pub use outline::{Outline, outline_of, read_outline};
 pub use over::Over;
+pub use places::Places;
 pub use rescuing::rescue;
 pub use restore_fault::RestoreFault;
 pub use restoring::{restore, restore_header};
 pub use same_volume::{counts_same_volume, is_other_volume};
+pub use writing_over::write_over;

@@ -15,7 +15,7 @@ use luks_area::{Area, Device, DeviceFault, SECTOR};
 /// Clears the first sectors of both copies' places, and of each older copy that begins before `limit`, and
 /// copies the key areas, the second copy and the first, a flush after each. Also where a device fails no
 /// byte of the target outside these places changes.
-pub(crate) fn write_over<S: Device, T: Device>(
+pub fn write_over<S: Device, T: Device>(
     source: &mut S,
     target: &mut T,
     places: &Places,

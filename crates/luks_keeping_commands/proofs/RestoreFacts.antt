@@ -1,18 +1,20 @@
 -- What `restore` leaves and answers, by what it met.
 use Rattle.std.proofs.Common.{◌≡◌, ◌↔◌, ◌⊎◌, inl, inr, List, ℕ, Bool, true, false, IsTrue, IfErr, OnOk, Result, Ok, Err, refl, sym, subst, ◌∙◌, length}
 use Rattle.std.proofs.lemmas.Bool.{false≢true}
+use Rattle.luks_area.specs.Device.{count_after}
 use Rattle.luks_area.specs.Ranges.{part, SameBut}
 use Rattle.luks_area.specs.declared.area.Area.{Area}
-use Rattle.luks_writing.specs.TwoDevices.{CountsAfter, CountsEither, IsOneFailure}
+use Rattle.luks_writing.specs.TwoDevices.{CountsAfter, CountsEither}
 use Rattle.luks2_header.specs.Selection.{Choice, Chosen}
 use Rattle.luks_reading.specs.declared.report.Data.{Data}
 use Rattle.luks_reading.specs.declared.report.Data.TheVariants.{Elsewhere}
-use Rattle.luks_reading.specs.Checked.{IsCheckRefusal, WellFormed}
+use Rattle.luks_reading.specs.Checked.{First, IsCheckRefusal, WellFormed}
 use Rattle.luks_reading.specs.Header.{NeedsMetadata}
+use Rattle.luks_reading.specs.Failures.{is_check_failure}
 use Rattle.luks_reading.specs.Reported.{IsFromOutside}
 use Rattle.luks_reading.specs.declared.check_fault.CheckFault.{CheckFault}
 use Rattle.luks_reading.proofs.CheckFacts.{outside}
-use Rattle.luks_reading.proofs.VolumeLaws.{well_formed_faultless}
+use Rattle.luks_reading.proofs.VolumeLaws.{uuid_faultless, well_formed_faultless}
 use Rattle.luks_keeping.specs.OtherHeaders.{IsUntoldSame}
 use Rattle.luks_keeping.specs.SameVolume.{CountsSameVolume}
 use Rattle.luks_keeping.specs.RestoreFaults.{is_restore_failure, CanRestore, IsAnsweredRestore, ReadsTarget}
@@ -23,7 +25,26 @@ use Rattle.luks_keeping.specs.declared.restore_fault.RestoreFault.{RestoreFault}
 use Rattle.luks_keeping.specs.declared.restore_fault.RestoreFault.TheVariants.{NotAccepted, DoesNotFit, OtherVolume, Memory, Device}
 use Rattle.luks_commands.specs.declared.answers.Answer.{Answer}
 use Rattle.luks_commands.specs.declared.answers.Answer.TheVariants.{Done, Refused, DeviceFault, NoMemory}
-use Rattle.luks_commands.specs.declared.answers.Refusal.TheVariants.{Restore}
+use Rattle.luks_commands.specs.declared.answers.Refusal.TheVariants.{OtherUse, Restore, Underway}
+use Rattle.luks_commands.specs.declared.underway_refusal.UnderwayRefusal.{UnderwayRefusal}
+use Rattle.luks_commands.specs.declared.underway_refusal.UnderwayRefusal.TheVariants.{Metadata, NoKey, Progressed}
+use Rattle.luks_commands.specs.Lost.{IsLost}
+use Rattle.luks_commands.specs.UnderwayAnswers.{IsMetadataRefused}
+use Rattle.luks2_header.specs.Header2.{header_at, uuid_field}
+use Rattle.luks_rules.specs.declared.fault.MetaFault.{MetaFault}
+use Rattle.luks_reading.specs.declared.check_fault.CheckFault.TheVariants as check
+use Rattle.luks_keeping.specs.RestoreFaults.{checked_restore}
+use Rattle.luks_wider.specs.Underways.{content}
+use Rattle.luks_wide_reading.specs.Headers.{IsUnderWayVolume, IsUnderwayCopy}
+use Rattle.luks_wide_reading.specs.declared.copy.UnderwayCopy.{UnderwayCopy}
+use Rattle.luks_wide_keeping.specs.Restored.{CanRestoreUnderway, IsOfUnderway, IsUnderwayUnrestored, is_underway_restore_failure}
+use Rattle.luks_wide_keeping.specs.Standings.{HasOneUuid}
+use Rattle.luks_wide_keeping.specs.declared.restore_fault.UnderwayRestoreFault.{UnderwayRestoreFault}
+use Rattle.luks_wide_keeping.specs.declared.restore_fault.UnderwayRestoreFault.TheVariants as underway
+use Rattle.luks_keeping_commands.specs.RestoringUnderway.{IsNewUnderwayVolume, IsUnderwayPutBack, IsUnderwayUseBar, IsUnused, over_underway, underway_restore_answer}
+use Rattle.luks_keeping_commands.proofs.Lifted.{lifted, lifted_new, none_after, one_after, same_after, IsBefore}
+use Rattle.luks_keeping_commands.proofs.NarrowFacts.{first_other}
+use Rattle.luks_keeping.proofs.RestoreFaultFacts.{answered_refusal}
 use Rattle.luks_commands.specs.Answer.{restore_fault_answer}
 use Rattle.luks_request.specs.declared.keeping.Restoring.{Restoring}
 use Rattle.luks_commands.specs.declared.inputs.InputFault.{InputFault}
@@ -32,28 +53,42 @@ use Rattle.luks_commands.specs.declared.standing.Bar.TheVariants as bar
 use Rattle.luks_commands.specs.Standing.{bar_answer, HasUse, is_bar_failure}
 use Rattle.luks_commands.specs.Reencrypting as meta
 use Rattle.luks_keeping_commands.specs.Restoring.{AnswersBoth, AnswersRestore, HoldsBackRestore, HoldsVolume, IsReencryptingAnswer, IsReencryptionBar, IsRestoreBar, IsRestoreClear, IsSpared, IsUnspared, IsUseBar, IsUseClear, IsUsedAnswer}
-use Rattle.luks_keeping_commands.specs.Restoring.{IsNewVolume, IsRestoreAnswer, KeepsRest}
-use Rattle.luks_keeping_commands.specs.TwoFiles.{pair_of, Pair}
+use Rattle.luks_keeping_commands.specs.Restoring.{IsNewVolume, IsPutBackAnswer, IsRestoreAnswer, KeepsRest, over_of}
+use Rattle.luks_keeping_commands.specs.TwoFiles.{pair_of, NoneFailed, Pair}
 
 -- ---- the volume
 
 -- one that no call was made on has kept its rest
 pub keeps_same : (payload : Data) (backup volume : List ℕ) → KeepsRest payload backup volume volume
-keeps_same payload backup volume = record {
+keeps_same payload backup volume = inl (record {
   outside = record { length_same = refl; each = λ p apart. refl };
   segments = λ n a is. refl;
   order = λ c chosen. inl (record { length_same = refl; each = λ p apart. refl });
-}
+})
 
 -- a device of so many bytes
 pub keeps_rest : (payload : Data) (b old new : List ℕ) (total : ℕ) → length old ≡ total → SameBut (IsOfRestored b payload old) old new
     → ((n : ℕ) (a : Area) → IsSegmentOn b payload total n a → part new a.start a.len ≡ part old a.start a.len)
     → ((c : Choice) → Chosen b c → RestoresInTurn b payload c old new) → KeepsRest payload b old new
-keeps_rest payload b old new total long outside segments order = record {
+keeps_rest payload b old new total long outside segments order = inl (record {
   outside = outside;
   segments = λ n a is. segments n a (subst (λ (l : ℕ). IsSegmentOn b payload l n a) long is);
   order = order;
+})
+
+-- something is under way in a backup that the wider reading reads so
+pub under_way_in : (b : List ℕ) (c : UnderwayCopy) → IsUnderwayCopy b c → IsUnderWayVolume b
+under_way_in b c x = record {
+  place = c.header.hdr_offset;
+  copies = c.copies;
+  chosen = x.chosen;
+  uuid = λ f bad. (uuid_faultless (uuid_field (header_at b c.header.hdr_offset))).1 x.uuid f bad;
+  is = record { value = content c.meta; json = x.metadata.0; is = x.metadata.1.under_way };
 }
+
+-- what is left of such a backup
+pub keeps_underway : (payload : Data) (b old new : List ℕ) (c : UnderwayCopy) → IsUnderwayCopy b c → SameBut (IsOfUnderway b payload old) old new → KeepsRest payload b old new
+keeps_underway payload b old new c of outside = inr (under_way_in b c of, outside)
 
 -- where both were as they are before
 pub keeps_after : (payload : Data) (b c old mid new : List ℕ) → c ≡ b → mid ≡ old → KeepsRest payload c mid new → KeepsRest payload b old new
@@ -71,39 +106,96 @@ answers_fault tells payload over d Device count same is = count
 answers_fault tells payload over d Memory count same is = (count, same refl, is)
 answers_fault tells payload over d f count same is = (count, same refl, is)
 
--- what was answered of two devices that calls before it changed nothing of
-module _
-    (tells : Type 0) (payload : Data) (over : Over) (b c old mid new : List ℕ) (total between s r t u v w : ℕ)
-    (source : tells → c ≡ b) (volume : tells → mid ≡ old) (one : r ≡ s) (two : v ≡ u)
-  where
-    abbrev pub first : Pair
-    first = record { source = b; total = total; old = old; new = new; source_before = s; source_after = t; before = u; after = w }
+-- a fault that isn't a device's left it so, too, where something is under way in the backup
+pub underway_fault : (tells : Type 0) (how : Restoring) (d : Pair) (f : UnderwayRestoreFault)
+    → CountsAfter (is_underway_restore_failure f) d.source_before d.source_after d.before d.after
+    → (is_underway_restore_failure f ≡ false → tells → d.new ≡ d.old) → (f ≡ underway.Restore Memory → ⊥)
+    → (tells → IsUnderwayUnrestored d.source d.old how.payload (over_underway how) f) → IsUnderwayPutBack tells how d (underway_restore_answer f)
+underway_fault tells how d (underway.Restore Device) count same own is = count
+underway_fault tells how d (underway.Restore Memory) count same own is = absurd (own refl)
+underway_fault tells how d (underway.Restore f) count same own is = (count, same refl, is)
+underway_fault tells how d underway.Progressed count same own is = (count, same refl, is)
 
-    abbrev pub then : Pair
-    then = record { source = c; total = between; old = mid; new = new; source_before = r; source_after = t; before = v; after = w }
+-- ---- after calls that changed nothing
 
-    lifted : (P : List ℕ → List ℕ → Type 0) → (tells → P c mid) → tells → P b old
-    lifted P x told = subst (λ (l : List ℕ). P l old) (source told) (subst (λ (l : List ℕ). P c l) (volume told) (x told))
+module _ (tells : Type 0) (payload : Data) (over : Over) (first then : Pair) (x : IsBefore tells first then) where
+  refused_after : (f : RestoreFault) → IsRestoreAnswer tells payload over then (Refused (Restore f)) → IsRestoreAnswer tells payload over first (Refused (Restore f))
+  refused_after (NotAccepted g) y =
+      (none_after tells first then x y.0, same_after tells first then x y.1, lifted tells first then x (λ k l. IsAnsweredRestore k l payload over (NotAccepted g)) y.2)
+  refused_after (DoesNotFit g) y =
+      (none_after tells first then x y.0, same_after tells first then x y.1, lifted tells first then x (λ k l. IsAnsweredRestore k l payload over (DoesNotFit g)) y.2)
+  refused_after OtherVolume y =
+      (none_after tells first then x y.0, same_after tells first then x y.1, lifted tells first then x (λ k l. IsAnsweredRestore k l payload over OtherVolume) y.2)
+  refused_after Memory y = y
+  refused_after Device y = y
 
-    none_after : (t ≡ r) × (w ≡ v) → (t ≡ s) × (w ≡ u)
-    none_after x = (x.0 ∙ one, x.1 ∙ two)
+  pub answer_after : (a : Answer) → IsRestoreAnswer tells payload over then a → IsRestoreAnswer tells payload over first a
+  answer_after (Done slot) y = (
+    none_after tells first then x y.0,
+    y.1,
+    lifted tells first then x (λ k l. CanRestore k l payload over) y.2,
+    lifted_new tells first then x (λ k l m. IsNewVolume payload k l m) y.3,
+  )
+  answer_after (Refused (Restore f)) y = refused_after f y
+  answer_after DeviceFault y = one_after tells first then x y
+  answer_after NoMemory y =
+      (none_after tells first then x y.0, same_after tells first then x y.1, lifted tells first then x (λ k l. IsAnsweredRestore k l payload over Memory) y.2)
+  answer_after a y = absurd y
 
-    same_after : (tells → new ≡ mid) → tells → new ≡ old
-    same_after x told = x told ∙ volume told
+module _ (tells : Type 0) (how : Restoring) (first then : Pair) (x : IsBefore tells first then) where
+  unrestored_after : (f : UnderwayRestoreFault) → (NoneFailed then × (tells → then.new ≡ then.old) × (tells → IsUnderwayUnrestored then.source then.old how.payload (over_underway how) f))
+      → NoneFailed first × (tells → first.new ≡ first.old) × (tells → IsUnderwayUnrestored first.source first.old how.payload (over_underway how) f)
+  unrestored_after f y = (
+    none_after tells first then x y.0,
+    same_after tells first then x y.1,
+    lifted tells first then x (λ k l. IsUnderwayUnrestored k l how.payload (over_underway how) f) y.2,
+  )
 
-    refused_after : (f : RestoreFault) → IsRestoreAnswer tells payload over then (Refused (Restore f)) → IsRestoreAnswer tells payload over first (Refused (Restore f))
-    refused_after (NotAccepted g) x = (none_after x.0, same_after x.1, lifted (λ k l. IsAnsweredRestore k l payload over (NotAccepted g)) x.2)
-    refused_after (DoesNotFit g) x = (none_after x.0, same_after x.1, lifted (λ k l. IsAnsweredRestore k l payload over (DoesNotFit g)) x.2)
-    refused_after OtherVolume x = (none_after x.0, same_after x.1, lifted (λ k l. IsAnsweredRestore k l payload over OtherVolume) x.2)
-    refused_after Memory x = x
-    refused_after Device x = x
+  underway_refused : (f : RestoreFault) → IsUnderwayPutBack tells how then (Refused (Restore f)) → IsUnderwayPutBack tells how first (Refused (Restore f))
+  underway_refused (NotAccepted g) y = unrestored_after (underway.Restore (NotAccepted g)) y
+  underway_refused (DoesNotFit g) y = unrestored_after (underway.Restore (DoesNotFit g)) y
+  underway_refused OtherVolume y = unrestored_after (underway.Restore OtherVolume) y
+  underway_refused Memory y = y
+  underway_refused Device y = y
 
-    pub answer_after : (a : Answer) → IsRestoreAnswer tells payload over then a → IsRestoreAnswer tells payload over first a
-    answer_after (Done slot) x = (none_after x.0, x.1, lifted (λ k l. CanRestore k l payload over) x.2, lifted (λ k l. IsNewVolume payload k l new) x.3)
-    answer_after (Refused (Restore f)) x = refused_after f x
-    answer_after DeviceFault x = subst (λ (n : ℕ). IsOneFailure n t u w) one (subst (λ (n : ℕ). IsOneFailure r t n w) two x)
-    answer_after NoMemory x = (none_after x.0, same_after x.1, lifted (λ k l. IsAnsweredRestore k l payload over Memory) x.2)
-    answer_after a x = absurd x
+  underway_barred : (r : UnderwayRefusal) → IsUnderwayPutBack tells how then (Refused (Underway r)) → IsUnderwayPutBack tells how first (Refused (Underway r))
+  underway_barred Progressed y = unrestored_after underway.Progressed y
+  underway_barred (Metadata f) y = (none_after tells first then x y.0, same_after tells first then x y.1, lifted tells first then x (λ k l. IsMetadataRefused k f) y.2)
+  underway_barred NoKey y = absurd y
+
+  pub underway_after : (a : Answer) → IsUnderwayPutBack tells how then a → IsUnderwayPutBack tells how first a
+  underway_after (Done slot) y = (
+    none_after tells first then x y.0,
+    y.1,
+    lifted tells first then x (λ k l. IsUnused how.over k l) y.2,
+    lifted tells first then x (λ k l. CanRestoreUnderway k l how.payload (over_underway how)) y.3,
+    lifted_new tells first then x (λ k l m. IsNewUnderwayVolume how.payload k l m) y.4,
+  )
+  underway_after (Refused (Restore f)) y = underway_refused f y
+  underway_after (Refused (Underway r)) y = underway_barred r y
+  underway_after (Refused (OtherUse found)) y = (
+    none_after tells first then x y.0,
+    same_after tells first then x y.1,
+    y.2,
+    lifted tells first then x (λ k l. HasUse l found × (HasOneUuid k l → ⊥)) y.3,
+  )
+  underway_after DeviceFault y = one_after tells first then x y
+  underway_after a y = absurd y
+
+  -- so of any backup
+  pub put_after : (a : Answer) → IsPutBackAnswer tells how then a → IsPutBackAnswer tells how first a
+  put_after a (inl y) =
+      inl (answer_after tells how.payload (over_of how) first then x a y.0, lifted tells first then x (λ k l. IsUnderWayVolume k → IsLost a) y.1)
+  put_after a (inr y) = inr (underway_after a y)
+
+-- what is answered of a backup that `check` refuses otherwise than by its metadata isn't of one in which something is under way
+pub checked_other : (v : List ℕ) (f : CheckFault) → IsCheckRefusal v Elsewhere f → ((g : MetaFault) → f ≡ check.Meta g → ⊥) → IsUnderWayVolume v
+    → IsLost (restore_fault_answer (checked_restore f))
+checked_other v (check.Head f) x other u = absurd (first_other v Elsewhere (check.Head f) x other u)
+checked_other v (check.Meta f) x other u = absurd (first_other v Elsewhere (check.Meta f) x other u)
+checked_other v (check.Area f) x other u = absurd (first_other v Elsewhere (check.Area f) x other u)
+checked_other v check.Device x other u = tt
+checked_other v check.Memory x other u = tt
 
 -- ---- what is asked before
 
@@ -203,3 +295,38 @@ restore_holds {D} tells size bytes failed r (Ok old) (Ok new) (Ok backup) (Err f
 restore_holds {D} tells size bytes failed r (Ok old) (Ok new) (Err f) backup_new a said = tt
 restore_holds {D} tells size bytes failed r (Ok old) (Err f) backup backup_new a said = tt
 restore_holds {D} tells size bytes failed r (Err f) new backup backup_new a said = tt
+
+-- ---- a backup that `check` refuses by this fault, which isn't one of the metadata
+
+pub put_fault : (tells : Type 0) (how : Restoring) (d : Pair) (f g : CheckFault) → f ≡ g → d.source_after ≡ count_after (is_check_failure f) d.source_before → d.after ≡ d.before
+    → (tells → d.new ≡ d.old) → (tells → IsCheckRefusal d.source Elsewhere f) → ((m : MetaFault) → g ≡ check.Meta m → ⊥)
+    → IsPutBackAnswer tells how d (restore_fault_answer (checked_restore g))
+put_fault tells how d f g e count again same is other =
+    subst (λ (h : CheckFault). IsPutBackAnswer tells how d (restore_fault_answer (checked_restore h))) e (by f count is (λ m x. other m (sym e ∙ x)))
+  where
+    first_said : (h : CheckFault) → (tells → IsCheckRefusal d.source Elsewhere h) → tells → IsAnsweredRestore d.source d.old how.payload (over_of how) (checked_restore h)
+    first_said h said told = answered_refusal d.source d.old how.payload (over_of how) h (said told)
+
+    by : (h : CheckFault) → d.source_after ≡ count_after (is_check_failure h) d.source_before → (tells → IsCheckRefusal d.source Elsewhere h)
+        → ((m : MetaFault) → h ≡ check.Meta m → ⊥) → IsPutBackAnswer tells how d (restore_fault_answer (checked_restore h))
+    by (check.Head h) counted said own = inl (((counted, again), same, first_said (check.Head h) said), λ told u. checked_other d.source (check.Head h) (said told) own u)
+    by (check.Meta h) counted said own = inl (((counted, again), same, first_said (check.Meta h) said), λ told u. checked_other d.source (check.Meta h) (said told) own u)
+    by (check.Area h) counted said own = inl (((counted, again), same, first_said (check.Area h) said), λ told u. checked_other d.source (check.Area h) (said told) own u)
+    by check.Device counted said own = inl (inl (counted, again), λ told u. tt)
+    by check.Memory counted said own = inl (((counted, again), same, first_said check.Memory said), λ told u. tt)
+
+-- the same of a fault of the metadata, where nothing is under way
+pub put_narrow : (tells : Type 0) (how : Restoring) (d : Pair) (f : MetaFault) → NoneFailed d → (tells → d.new ≡ d.old) → (tells → First d.source Elsewhere (check.Meta f))
+    → (tells → IsUnderWayVolume d.source → ⊥) → IsPutBackAnswer tells how d (restore_fault_answer (checked_restore (check.Meta f)))
+put_narrow tells how d f none same is other =
+    inl ((none, same, λ told. answered_refusal d.source d.old how.payload (over_of how) (check.Meta f) (is told)), λ told u. absurd (other told u))
+
+-- ---- another use of the disk bars it
+
+pub barred_underway : (tells : Type 0) (how : Restoring) (d : Pair) (x : Bar) → CountsAfter (is_bar_failure x) d.source_before d.source_after d.before d.after
+    → (tells → d.new ≡ d.old) → IsUnderwayUseBar tells how.over d.source d.old x → IsUnderwayPutBack tells how d (bar_answer x)
+barred_underway tells how d (bar.OtherUse found) count same is = (count, same, is.0, is.1)
+barred_underway tells how d bar.OtherVolume count same is = absurd is
+barred_underway tells how d bar.Reencrypting count same is = absurd is
+barred_underway tells how d bar.Memory count same is = absurd is
+barred_underway tells how d bar.Device count same is = count

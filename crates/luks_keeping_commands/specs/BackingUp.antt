@@ -17,12 +17,18 @@ use Rattle.luks_keeping.specs.declared.backup_fault.BackupFault.TheVariants as f
 use Rattle.luks_request.specs.declared.keeping.BackingUp.{BackingUp}
 use Rattle.luks_commands.specs.declared.answers.Answer.{Answer}
 use Rattle.luks_commands.specs.declared.answers.Answer.TheVariants.{Done, Rescued, Refused, DeviceFault, NoMemory}
-use Rattle.luks_commands.specs.declared.answers.Refusal.TheVariants.{Backup, Exists}
+use Rattle.luks_commands.specs.declared.answers.Refusal.TheVariants.{Backup, Exists, Underway}
+use Rattle.luks_commands.specs.declared.underway_refusal.UnderwayRefusal.TheVariants.{Metadata}
 use Rattle.luks_commands.specs.declared.inputs.InputFault.{InputFault}
 use Rattle.luks_commands.specs.declared.inputs.InputFault.TheVariants.{Unreadable}
 use Rattle.luks_commands.specs.declared.inputs.Reason.TheVariants as reason
 use Rattle.luks_commands.specs.Answer.{unread_answer}
+use Rattle.luks_commands.specs.Lost.{IsLost}
+use Rattle.luks_wide_reading.specs.declared.copy.UnderwayCopy.{UnderwayCopy}
+use Rattle.luks_wide_reading.specs.Headers.{IsUnderwayCopy, IsUnderWayVolume}
+use Rattle.luks_wide_keeping.specs.Backup.{CanBackUpUnderway, IsUnderwayBackup, IsUnderwayUnmade}
 use Rattle.luks_keeping_commands.specs.TwoFiles.{pair_of, NoneFailed, Pair}
+use Rattle.luks_commands.specs.UnderwayAnswers.{IsMetadataRefused}
 
 -- ---- the backup that is made
 
@@ -71,8 +77,31 @@ IsRescueAnswer tells payload d DeviceFault = EndsAfter true d.source_before d.so
     × (tells → d.after ≡ d.before → (c : Choice) → Chosen d.source c → EndsBySource d.source c d.source_before d.source_after d.old d.new)
 IsRescueAnswer tells payload d a = IsBackupAnswer tells payload d a
 
+-- ---- and where something is under way
+
+-- `new` is the file `old` after the backup of the volume `v`, as it was at that moment, was written to it
+pub record IsNewUnderway (v old new : List ℕ) : Type 0 where
+  pub backup : IsUnderwayBackup v old new
+  -- what is read of the volume is read of the backup
+  pub reads : (c : UnderwayCopy) → IsUnderwayCopy v c → IsUnderwayCopy new c
+
+-- where both files are there, and something is under way in the volume's metadata; `device fault` comes exactly where a call
+-- of one of the two failed
+abbrev pub IsUnderwayMade : Type 0 → Pair → Answer → Type 0
+IsUnderwayMade tells d (Done slot) = NoneFailed d × (slot ≡ None)
+    × (tells → CanBackUpUnderway d.source d.total) × (tells → IsNewUnderway d.source d.old d.new)
+IsUnderwayMade tells d (Refused (Backup fault.Device)) = ⊥
+IsUnderwayMade tells d (Refused (Backup fault.Memory)) = ⊥
+IsUnderwayMade tells d (Refused (Backup f)) = NoneFailed d × (tells → d.new ≡ d.old) × (tells → IsUnderwayUnmade d.source d.total f)
+IsUnderwayMade tells d (Refused (Underway (Metadata f))) = NoneFailed d × (tells → d.new ≡ d.old)
+    × (tells → IsMetadataRefused d.source f)
+IsUnderwayMade tells d DeviceFault = IsOneFailure d.source_before d.source_after d.before d.after
+IsUnderwayMade tells d a = ⊥
+
+-- where both files are there, with `--rescue` or without it: what is answered of any volume isn't of one in whose metadata
+-- something is under way, but where a call failed or memory was refused
 abbrev pub IsMadeAnswer : Bool → Type 0 → Data → Pair → Answer → Type 0
-IsMadeAnswer false tells payload d a = IsBackupAnswer tells payload d a
+IsMadeAnswer false tells payload d a = (IsBackupAnswer tells payload d a × (tells → IsUnderWayVolume d.source → IsLost a)) ⊎ IsUnderwayMade tells d a
 IsMadeAnswer true tells payload d a = IsRescueAnswer tells payload d a
 
 -- ---- where there is no file
@@ -92,6 +121,24 @@ abbrev pub IsWithoutFile : Type 0 → Data → List ℕ → ℕ → ℕ → Inpu
 IsWithoutFile tells payload v before after missed a = IsNotKept tells payload v before after a
     ⊎ ((after ≡ before) × (tells → WellFormed v payload) × (a ≡ unread_answer missed))
 
+-- the same where something is under way in its metadata
+abbrev pub IsUnderwayUnkept : Type 0 → List ℕ → ℕ → ℕ → Answer → Type 0
+IsUnderwayUnkept tells v before after (Refused (Backup fault.Device)) = ⊥
+IsUnderwayUnkept tells v before after (Refused (Backup fault.Memory)) = ⊥
+IsUnderwayUnkept tells v before after (Refused (Backup f)) = (after ≡ before) × (tells → IsUnderwayUnmade v 18446744073709551615 f)
+IsUnderwayUnkept tells v before after (Refused (Underway (Metadata f))) = (after ≡ before) × (tells → IsMetadataRefused v f)
+IsUnderwayUnkept tells v before after a = ⊥
+
+abbrev pub IsUnderwayWithoutFile : Type 0 → List ℕ → ℕ → ℕ → InputFault → Answer → Type 0
+IsUnderwayWithoutFile tells v before after missed a = IsUnderwayUnkept tells v before after a
+    ⊎ ((after ≡ before) × (tells → CanBackUpUnderway v 18446744073709551615) × (a ≡ unread_answer missed))
+
+-- with `--rescue` or without it
+abbrev pub IsUnmadeAnswer : Bool → Type 0 → Data → List ℕ → ℕ → ℕ → InputFault → Answer → Type 0
+IsUnmadeAnswer false tells payload v before after missed a =
+    (IsWithoutFile tells payload v before after missed a × (tells → IsUnderWayVolume v → IsLost a)) ⊎ IsUnderwayWithoutFile tells v before after missed a
+IsUnmadeAnswer true tells payload v before after missed a = IsWithoutFile tells payload v before after missed a
+
 -- ---- the whole
 
 -- of the volume and the file before the command and after it, where they aren't one, with `--rescue` or without it: a
@@ -102,6 +149,6 @@ AnswersBackup {D} tells size bytes failed rescue payload volume volume_new (Err 
 AnswersBackup {D} tells size bytes failed rescue payload (Ok volume) (Ok volume_new) (Ok old) (Ok new) a =
     IsMadeAnswer rescue tells payload (pair_of size bytes failed volume volume_new old new) a
 AnswersBackup {D} tells size bytes failed rescue payload (Ok volume) (Ok volume_new) (Err missed) new a =
-    IsWithoutFile tells payload (bytes volume) (failed volume) (failed volume_new) missed a
+    IsUnmadeAnswer rescue tells payload (bytes volume) (failed volume) (failed volume_new) missed a
 AnswersBackup {D} tells size bytes failed rescue payload (Err missed) volume_new old new a = a ≡ unread_answer missed
 AnswersBackup {D} tells size bytes failed rescue payload volume volume_new old new a = ⊥

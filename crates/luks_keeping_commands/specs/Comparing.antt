@@ -14,6 +14,9 @@ use Rattle.luks_commands.specs.declared.answers.Answer.TheVariants.{Compared, Re
 use Rattle.luks_commands.specs.declared.answers.Refusal.TheVariants.{Check, Restore}
 use Rattle.luks_commands.specs.declared.inputs.InputFault.{InputFault}
 use Rattle.luks_commands.specs.Answer.{unread_answer}
+use Rattle.luks_commands.specs.Lost.{IsLost}
+use Rattle.luks_wide_reading.specs.Headers.{IsUnderWayVolume}
+use Rattle.luks_keeping_commands.specs.ComparingUnderway.{IsUnderwayCompared}
 use Rattle.luks_keeping_commands.specs.TwoFiles.{pair_of, NoneFailed, Pair}
 
 -- the backup `b` is one, and the volume `t` is well formed
@@ -36,12 +39,17 @@ IsCompareAnswer tells payload d NoMemory = NoneFailed d
     × (tells → NeedsMetadata d.source ⊎ (WellFormed d.source Elsewhere × NeedsMetadata d.old))
 IsCompareAnswer tells payload d a = ⊥
 
+-- of any backup: what is answered of others isn't of one in whose metadata something is under way, but where a call failed or memory was
+-- refused
+abbrev pub IsComparedAnswer : Type 0 → Data → Pair → Answer → Type 0
+IsComparedAnswer tells payload d a = (IsCompareAnswer tells payload d a × (tells → IsUnderWayVolume d.source → IsLost a)) ⊎ IsUnderwayCompared tells d a
+
 -- of the volume and the backup before the command and after it, where they aren't one file: the volume is
 -- opened first
 abbrev pub AnswersCompare : {D : Type 0} → Type 0 → (D → ℕ) → (D → List ℕ) → (D → ℕ) → Data
     → Result D InputFault → Result D InputFault → Result D InputFault → Result D InputFault → Answer → Type 0
 AnswersCompare {D} tells size bytes failed payload (Ok old) (Ok new) (Ok backup) (Ok backup_new) a =
-    IsCompareAnswer tells payload (pair_of size bytes failed backup backup_new old new) a
+    IsComparedAnswer tells payload (pair_of size bytes failed backup backup_new old new) a
 AnswersCompare {D} tells size bytes failed payload (Ok old) new (Err missed) backup_new a = a ≡ unread_answer missed
 AnswersCompare {D} tells size bytes failed payload (Err missed) new backup backup_new a = a ≡ unread_answer missed
 AnswersCompare {D} tells size bytes failed payload old new backup backup_new a = ⊥

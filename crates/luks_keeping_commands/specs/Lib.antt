@@ -1,6 +1,9 @@
+pub mod UnderwayTexts
 pub mod TwoFiles
 pub mod BackingUp
+pub mod RestoringUnderway
 pub mod Restoring
+pub mod ComparingUnderway
 pub mod Comparing
 pub mod Differences
 pub mod KeptFile

@@ -28,6 +28,9 @@ use Rattle.luks_signatures.specs.declared.other_use.OtherUse.{OtherUse as Use}
 use Rattle.luks_commands.specs.declared.inputs.InputFault.{InputFault}
 use Rattle.luks_commands.specs.Answer.{unread_answer}
 use Rattle.luks_commands.specs.Reencrypting.{IsReencrypting, IsUnaskedMetadata}
+use Rattle.luks_commands.specs.Lost.{IsLost}
+use Rattle.luks_wide_reading.specs.Headers.{IsUnderWayVolume}
+use Rattle.luks_keeping_commands.specs.RestoringUnderway.{IsUnderwayPutBack, KeepsUnderway}
 use Rattle.luks_keeping_commands.specs.TwoFiles.{pair_of, NoneFailed, Pair}
 
 -- what `--other` and `--over` allow
@@ -51,10 +54,15 @@ pub record IsNewVolume (payload : Data) (b old new : List ℕ) : Type 0 where
 -- whatever is answered, after a failed call too: no byte has changed but those of the backup's header and key
 -- areas and of older copies' first sectors, and none of a segment; and what is left is of a time at which the
 -- backup was put back in its order
-pub record KeepsRest (payload : Data) (b old new : List ℕ) : Type 0 where
+pub record KeepsNarrow (payload : Data) (b old new : List ℕ) : Type 0 where
   pub outside : SameBut (IsOfRestored b payload old) old new
   pub segments : (n : ℕ) (a : Area) → IsSegmentOn b payload (length old) n a → part new a.start a.len ≡ part old a.start a.len
   pub order : (c : Choice) → Chosen b c → RestoresInTurn b payload c old new
+
+-- the same of any backup: where something is under way in its metadata, no byte has changed but those of both copies of its header and the region of its
+-- key areas, and of older copies' first sectors
+abbrev pub KeepsRest : Data → List ℕ → List ℕ → List ℕ → Type 0
+KeepsRest payload b old new = KeepsNarrow payload b old new ⊎ (IsUnderWayVolume b × KeepsUnderway payload b old new)
 
 -- ---- what is answered
 
@@ -71,6 +79,11 @@ IsRestoreAnswer tells payload over d DeviceFault = IsOneFailure d.source_before 
 IsRestoreAnswer tells payload over d NoMemory = NoneFailed d × (tells → d.new ≡ d.old)
     × (tells → IsAnsweredRestore d.source d.old payload over fault.Memory)
 IsRestoreAnswer tells payload over d a = ⊥
+
+-- of any backup: what is answered of others isn't of one in whose metadata something is under way, but where a call failed or memory was refused
+abbrev pub IsPutBackAnswer : Type 0 → Restoring → Pair → Answer → Type 0
+IsPutBackAnswer tells restoring d a =
+    (IsRestoreAnswer tells restoring.payload (over_of restoring) d a × (tells → IsUnderWayVolume d.source → IsLost a)) ⊎ IsUnderwayPutBack tells restoring d a
 
 -- ---- what is asked before
 
@@ -94,7 +107,7 @@ pub record IsRestoreClear (restoring : Restoring) (b t : List ℕ) : Type 0 wher
 abbrev pub AnswersBoth : Type 0 → Restoring → Pair → Answer → Type 0
 AnswersBoth tells restoring d a =
     IsHeldBack tells (IsRestoreBar tells restoring d.source d.old) (λ is_failure. CountsAfter is_failure d.source_before d.source_after d.before d.after) d.old d.new a
-    ⊎ ((tells → IsRestoreClear restoring d.source d.old) × IsRestoreAnswer tells restoring.payload (over_of restoring) d a)
+    ⊎ ((tells → IsRestoreClear restoring d.source d.old) × IsPutBackAnswer tells restoring d a)
 
 -- of the volume and the backup before the command and after it, where they aren't one file: the volume is
 -- opened first

@@ -7,10 +7,13 @@ pub mod compare;
 mod differences;
 mod kept_file;
 pub mod key;
+mod key_refusal;
 mod keyslots_note;
 mod made_file;
 pub mod restore;
 pub mod token;
+mod underway;
 mod volume_use;
 
+pub use key_refusal::KeyRefusal;
 pub use made_file::{MakesFile, Unmade};

@@ -7,11 +7,13 @@ ghost use Rattle.luks_commands.specs.Standing.{is_bar_failure};
 ghost use Rattle.luks_commands.specs.Reencrypting.{IsFromOutside, IsReencrypting};
 ghost use Rattle.luks_keeping_commands.specs.Restoring.{IsReencryptionBar, IsRestoreBar, IsRestoreClear};
 ghost use Rattle.luks_keeping_commands.specs.Restoring.{IsSpared, IsUnspared, IsUseBar, IsUseClear};
+ghost use Rattle.luks_keeping_commands.specs.RestoringUnderway.{IsUnderwayUseBar, IsUnused};
 
 use luks_commands::{Bar, is_reencrypting, standing_use_of};
 use luks_keeping::{RestoreFault, counts_same_volume, read_outline};
 use luks_reading::{CheckFault, Data, Device};
 use luks_request::Restoring;
+use luks_wide_keeping::{Standing, standing_of};
 use std::alloc::Global;
 
 /// Refuses where the volume is in the midst of a reencryption, or else where its disk has another use and
@@ -124,5 +126,38 @@ fn bar_of(fault: RestoreFault) -> Bar
     match fault {
         RestoreFault::Device => Bar::Device,
         _ => Bar::Memory,
+    }
+}
+
+/// The same of a backup that was made while something was under way: refuses where the disk has another use and no header
+/// with the backup's uuid counts there, unless it may be written over.
+pub(crate) fn judge_use_underway<D: Device>(
+    backup: &mut D,
+    volume: &mut D,
+    over: bool,
+) -> Result<(), Bar>
+    requires backup_room { D.failed backup.old + 1 < 2 ^ 64 }
+    requires volume_room { D.failed volume.old + 1 < 2 ^ 64 }
+    ensures kept { IsUnchanged D.tells D.size D.bytes D.unsettled backup.old backup.new }
+    ensures unchanged { IsUnchanged D.tells D.size D.bytes D.unsettled volume.old volume.new }
+    ensures count { CountsEither is_bar_failure result (D.failed backup.old)
+        (D.failed backup.new) (D.failed volume.old) (D.failed volume.new) }
+    ensures barred { IfErr result
+        (IsUnderwayUseBar D.tells over (D.bytes backup.old) (D.bytes volume.old)) }
+    ensures clear { D.tells → OnOk result
+        (IsUnused over (D.bytes backup.old) (D.bytes volume.old)) }
+{
+    if over {
+        return Ok(());
+    }
+    let Some(found) = standing_use_of(volume)? else {
+        return Ok(());
+    };
+    match standing_of(backup, volume) {
+        Ok(Standing::Same) => Ok(()),
+        Ok(Standing::Progressed) => Ok(()),
+        Ok(Standing::Another) => Err(Bar::OtherUse(found)),
+        Ok(Standing::Nothing) => Err(Bar::OtherUse(found)),
+        Err(_) => Err(Bar::Device),
     }
 }

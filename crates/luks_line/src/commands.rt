@@ -53,6 +53,7 @@ static COMMANDS: [Described; 21] = [
         options: &[
             LongOption::All,
             LongOption::Map,
+            LongOption::Tables,
             LongOption::Json,
             LongOption::Offset,
             LongOption::Length,

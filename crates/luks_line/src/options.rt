@@ -10,6 +10,7 @@ pub(crate) enum LongOption {
     DetachedSource,
     All,
     Map,
+    Tables,
     Json,
     Passphrase,
     New,
@@ -89,7 +90,7 @@ pub(crate) struct OptionRow {
 }
 
 /// In the order of `LongOption`.
-static OPTIONS: [OptionRow; 66] = [
+static OPTIONS: [OptionRow; 67] = [
     OptionRow {
         name: "detached",
         needed: false,
@@ -112,6 +113,12 @@ static OPTIONS: [OptionRow; 66] = [
         name: "map",
         needed: false,
         help: "A map of the areas, in the order of their places",
+        takes: Takes::Form,
+    },
+    OptionRow {
+        name: "tables",
+        needed: false,
+        help: "Lines for dmsetup, of a volume under reencryption",
         takes: Takes::Form,
     },
     OptionRow {

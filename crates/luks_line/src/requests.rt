@@ -352,6 +352,8 @@ fn form_of(given: &ArgMatches<'_>) -> ShowAs {
         ShowAs::Json
     } else if given.get_flag("map") {
         ShowAs::Map
+    } else if given.get_flag("tables") {
+        ShowAs::Tables
     } else if given.get_flag("all") {
         ShowAs::All
     } else {

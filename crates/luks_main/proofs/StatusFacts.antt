@@ -17,8 +17,13 @@ use Rattle.luks_request.specs.declared.request.ShowAs.{ShowAs}
 use Rattle.luks_request.specs.declared.request.ShowAs.TheVariants as form
 use Rattle.luks_commands.specs.declared.answers.Answer.{Answer}
 use Rattle.luks_edit.specs.declared.edit_fault.EditFault.TheVariants.{NoSuchToken}
-use Rattle.luks_commands.specs.declared.answers.Answer.TheVariants.{Accepted, Listed, ListedFully, Mapped, Tokens, Json, Opens, Closed, NoneOpens, Matches, Differs, Done, Compared, Rescued, Refused, DeviceFault, NoMemory}
+use Rattle.luks_commands.specs.declared.answers.Answer.TheVariants.{Accepted, Listed, ListedFully, Mapped, Tokens, Json, Underway, Opens, Closed, NoneOpens, Matches, Differs, Done, Compared, Rescued, Refused, DeviceFault, NoMemory}
 use Rattle.luks_commands.specs.declared.answers.Refusal.TheVariants as refusal
+use Rattle.luks_commands.specs.declared.underway_refusal.UnderwayRefusal.TheVariants.{Metadata, NoKey, Progressed}
+use Rattle.luks_commands.specs.declared.underway_shown.UnderwayShown.TheVariants as shown
+use Rattle.luks_underway_show.specs.declared.lines.Lines.{Lines}
+use Rattle.luks_underway_show.specs.declared.lines.Lines.TheVariants.{Few, All}
+use Rattle.luks_wide_reading.specs.declared.copy.UnderwayCopy.{UnderwayCopy}
 use Rattle.luks_commands.specs.declared.inputs.InputFault.{InputFault}
 use Rattle.luks_commands.specs.declared.inputs.InputFault.TheVariants.{Absent, Unreadable, NoMemory as NoMemoryToRead}
 use Rattle.luks_commands.specs.declared.inputs.Reason.TheVariants as reason
@@ -31,7 +36,7 @@ use Rattle.luks_signatures.specs.declared.other_use.OtherUse.{OtherUse as Use}
 use Rattle.luks_commands.specs.CheckAnswers.{AnswersCheck, IsCheckAnswer}
 use Rattle.luks_slot.specs.declared.allowed.Allowed.{Allowed}
 use Rattle.luks_commands.specs.KeyAnswers.{AnswersKey, key_answer, matching_answer}
-use Rattle.luks_commands.specs.OpenAnswers.{AnswersOpen, IsAnyAnswer, IsOneAnswer, IsOpenAnswer}
+use Rattle.luks_commands.specs.OpenAnswers.{AnswersOpen, IsAnyAnswer, IsAnyUnderway, IsOneAnswer, IsOneUnderway, IsOpenAnswer, IsUnderwayAnswer}
 use Rattle.luks_reading.specs.declared.key_fault.KeyFault.{KeyFault}
 use Rattle.luks_reading.specs.declared.key_fault.KeyFault.TheVariants as judging
 use Rattle.luks_reading.specs.declared.matching.KeyMatch.{KeyMatch}
@@ -41,7 +46,9 @@ use Rattle.luks_area.specs.declared.device.Device.{Ghosts as Device}
 use Rattle.luks_commands.specs.FormatAnswers.{AnswersFormat, IsFormatAnswer}
 use Rattle.luks_rebuilding.specs.declared.place.Place.{Place}
 use Rattle.luks_rebuilding.specs.declared.place.Which.{Which}
-use Rattle.luks_commands.specs.ShowAnswers.{AnswersShow, IsFullAnswer, IsJsonAnswer, IsListedAnswer, IsMapAnswer, IsShowAnswer, IsTokenAnswer, IsTokensAnswer}
+use Rattle.luks_commands.specs.ShowAnswers.{AnswersShow, IsFullAnswer, IsJsonAnswer, IsListedAnswer, IsMapAnswer, IsShowAnswer, IsTablesAnswer, IsTokenAnswer, IsTokensAnswer, IsVolumeShown}
+use Rattle.luks_commands.specs.UnderwayAnswers.{IsRefusedUnderway}
+use Rattle.luks_commands.specs.UnderwayShown.{AreTokensListed, IsCopyAsJson, IsCopyListed, IsCopyMapped, IsCopyShown, IsTableGiven, IsTokenGiven, IsUnderwayShown}
 use Rattle.luks_header_commands.specs.Converting.{AnswersConvert, IsConvertAnswer}
 use Rattle.luks_header_commands.specs.FoundHeader.{IsHeadedAnswer}
 use Rattle.luks_header_commands.specs.FoundMetadata.{IsMadeAnswer2}
@@ -56,12 +63,16 @@ use Rattle.luks_keeping.specs.declared.backup_fault.BackupFault.TheVariants as b
 use Rattle.luks_keeping.specs.declared.comparison.Comparison.{Comparison}
 use Rattle.luks_keeping.specs.declared.over.Over.{Over}
 use Rattle.luks_keeping.specs.declared.restore_fault.RestoreFault.TheVariants as restoring
-use Rattle.luks_keeping_commands.specs.BackingUp.{AnswersBackup, IsBackupAnswer, IsMadeAnswer, IsNotKept, IsRescueAnswer, IsWithoutFile}
-use Rattle.luks_keeping_commands.specs.Comparing.{AnswersCompare, IsCompareAnswer}
-use Rattle.luks_keeping_commands.specs.KeepingKey.{shut_answer, AnswersKeyKept, IsKeyFileAnswer}
+use Rattle.luks_keeping_commands.specs.BackingUp.{AnswersBackup, IsBackupAnswer, IsMadeAnswer, IsNotKept, IsRescueAnswer, IsUnderwayMade, IsUnderwayUnkept, IsUnmadeAnswer, IsWithoutFile}
+use Rattle.luks_keeping_commands.specs.Comparing.{AnswersCompare, IsCompareAnswer, IsComparedAnswer}
+use Rattle.luks_keeping_commands.specs.ComparingUnderway.{IsUnderwayCompared}
+use Rattle.luks_keeping_commands.specs.KeepingKey.{refusal_answer, shut_answer, AnswersKeyKept, IsKeyFileAnswer}
+use Rattle.luks_keeping_commands.specs.declared.key_refusal.KeyRefusal.{KeyRefusal}
+use Rattle.luks_keeping_commands.specs.declared.key_refusal.KeyRefusal.TheVariants as unopened
 use Rattle.luks_keeping_commands.specs.KeepingToken.{line_of, IsTokenFileAnswer, IsTokenKept}
 use Rattle.luks_keeping_commands.specs.KeptFile.{unmade_answer, IsKept}
-use Rattle.luks_keeping_commands.specs.Restoring.{over_of, AnswersBoth, AnswersRestore, IsRestoreAnswer, IsRestoreBar}
+use Rattle.luks_keeping_commands.specs.Restoring.{over_of, AnswersBoth, AnswersRestore, IsPutBackAnswer, IsRestoreAnswer, IsRestoreBar}
+use Rattle.luks_keeping_commands.specs.RestoringUnderway.{IsUnderwayPutBack}
 use Rattle.luks_keeping_commands.specs.TwoFiles.{pair_of, Pair as TwoFiles}
 use Rattle.luks_edit_commands.specs.EditAnswers.{AnswersEdit, IsEditAnswer}
 use Rattle.luks_edit_commands.specs.Editing.{Given, Lacking}
@@ -83,6 +94,7 @@ memory_ends (command.Check payload) = refl
 memory_ends (command.Show form.Lines) = refl
 memory_ends (command.Show form.All) = refl
 memory_ends (command.Show form.Map) = refl
+memory_ends (command.Show form.Tables) = refl
 memory_ends (command.Show form.Tokens) = refl
 memory_ends (command.Show (form.Token n)) = refl
 memory_ends (command.Show form.Json) = refl
@@ -185,25 +197,91 @@ token_there n tells v before after DeviceFault said = refl
 token_there n tells v before after NoMemory said = refl
 token_there n tells v before after a said = absurd said
 
+tables_there : (tells : Type 0) (v : List ℕ) (before after : ℕ) (a : Answer) → IsTablesAnswer tells v before after a → EndsShow form.Tables a (own a)
+tables_there tells v before after (Refused refusal.NotUnderWay) said = refl
+tables_there tells v before after (Refused (refusal.Check f)) said = refl
+tables_there tells v before after DeviceFault said = refl
+tables_there tells v before after NoMemory said = refl
+tables_there tells v before after a said = absurd said
+
 show_there : (shown_as : ShowAs) (tells : Type 0) (v : List ℕ) (before after : ℕ) (a : Answer) → IsShowAnswer shown_as tells v before after a → EndsShow shown_as a (own a)
 show_there form.Lines tells v before after a said = listed_there tells v before after a said
 show_there form.All tells v before after a said = full_there tells v before after a said
 show_there form.Map tells v before after a said = map_there tells v before after a said
+show_there form.Tables tells v before after a said = tables_there tells v before after a said
 show_there form.Tokens tells v before after a said = tokens_there tells v before after a said
 show_there (form.Token n) tells v before after a said = token_there n tells v before after a said
 show_there form.Json tells v before after a said = json_there tells v before after a said
+
+copy_listed : (copy : UnderwayCopy) (a : Answer) → IsCopyListed Few copy a → EndsShow form.Lines a (own a)
+copy_listed copy (Underway (shown.Listed listing)) said = (said.lines, refl)
+copy_listed copy a said = absurd said
+
+copy_listed_fully : (copy : UnderwayCopy) (a : Answer) → IsCopyListed All copy a → EndsShow form.All a (own a)
+copy_listed_fully copy (Underway (shown.Listed listing)) said = (said.lines, refl)
+copy_listed_fully copy a said = absurd said
+
+copy_mapped : (copy : UnderwayCopy) (total : ℕ) (a : Answer) → IsCopyMapped copy total a → EndsShow form.Map a (own a)
+copy_mapped copy total (Mapped m) said = refl
+copy_mapped copy total a said = absurd said
+
+copy_table : (copy : UnderwayCopy) (total : ℕ) (a : Answer) → IsTableGiven copy total a → EndsShow form.Tables a (own a)
+copy_table copy total (Underway (shown.Tables table)) said = refl
+copy_table copy total a said = absurd said
+
+copy_tokens : (copy : UnderwayCopy) (a : Answer) → AreTokensListed copy a → EndsShow form.Tokens a (own a)
+copy_tokens copy (Underway (shown.Tokens tokens)) said = refl
+copy_tokens copy a said = absurd said
+
+copy_token : (n : ℕ) (copy : UnderwayCopy) (a : Answer) → IsTokenGiven n copy a → EndsShow (form.Token n) a (own a)
+copy_token n copy (Json text) said = refl
+copy_token n copy (Refused (refusal.Edit NoSuchToken)) said = refl
+copy_token n copy NoMemory said = refl
+copy_token n copy a said = absurd said
+
+copy_json : (copy : UnderwayCopy) (a : Answer) → IsCopyAsJson copy a → EndsShow form.Json a (own a)
+copy_json copy (Json text) said = refl
+copy_json copy NoMemory said = refl
+copy_json copy a said = absurd said
+
+copy_shown : (shown_as : ShowAs) (copy : UnderwayCopy) (total : ℕ) (a : Answer) → IsCopyShown shown_as copy total a → EndsShow shown_as a (own a)
+copy_shown form.Lines copy total a said = copy_listed copy a said
+copy_shown form.All copy total a said = copy_listed_fully copy a said
+copy_shown form.Map copy total a said = copy_mapped copy total a said
+copy_shown form.Tables copy total a said = copy_table copy total a said
+copy_shown form.Tokens copy total a said = copy_tokens copy a said
+copy_shown (form.Token n) copy total a said = copy_token n copy a said
+copy_shown form.Json copy total a said = copy_json copy a said
+
+show_refused : (shown_as : ShowAs) (tells : Type 0) (v : List ℕ) (a : Answer) → IsRefusedUnderway tells v a → EndsShow shown_as a (own a)
+show_refused form.Lines tells v a said = subst (λ x. EndsShow form.Lines x (own x)) (sym said.is) refl
+show_refused form.All tells v a said = subst (λ x. EndsShow form.All x (own x)) (sym said.is) refl
+show_refused form.Map tells v a said = subst (λ x. EndsShow form.Map x (own x)) (sym said.is) refl
+show_refused form.Tables tells v a said = subst (λ x. EndsShow form.Tables x (own x)) (sym said.is) refl
+show_refused form.Tokens tells v a said = subst (λ x. EndsShow form.Tokens x (own x)) (sym said.is) refl
+show_refused (form.Token n) tells v a said = subst (λ x. EndsShow (form.Token n) x (own x)) (sym said.is) refl
+show_refused form.Json tells v a said = subst (λ x. EndsShow form.Json x (own x)) (sym said.is) refl
+
+show_underway : (shown_as : ShowAs) (tells : Type 0) (v : List ℕ) (a : Answer) → IsUnderwayShown shown_as tells v a ⊎ IsRefusedUnderway tells v a → EndsShow shown_as a (own a)
+show_underway shown_as tells v a (inl said) = copy_shown shown_as said.copy said.total a said.shown
+show_underway shown_as tells v a (inr said) = show_refused shown_as tells v a said
+
+show_volume : (shown_as : ShowAs) (tells : Type 0) (v : List ℕ) (before after : ℕ) (a : Answer) → IsVolumeShown shown_as tells v before after a → EndsShow shown_as a (own a)
+show_volume shown_as tells v before after a (inl said) = show_there shown_as tells v before after a said.0
+show_volume shown_as tells v before after a (inr said) = show_underway shown_as tells v a said.1
 
 show_unread : (shown_as : ShowAs) (f : InputFault) (a : Answer) → a ≡ unread_answer f → EndsShow shown_as a (own a)
 show_unread form.Lines f a is = unread_ends (EndsShow form.Lines) refl refl f a is
 show_unread form.All f a is = unread_ends (EndsShow form.All) refl refl f a is
 show_unread form.Map f a is = unread_ends (EndsShow form.Map) refl refl f a is
+show_unread form.Tables f a is = unread_ends (EndsShow form.Tables) refl refl f a is
 show_unread form.Tokens f a is = unread_ends (EndsShow form.Tokens) refl refl f a is
 show_unread (form.Token n) f a is = unread_ends (EndsShow (form.Token n)) refl refl f a is
 show_unread form.Json f a is = unread_ends (EndsShow form.Json) refl refl f a is
 
 pub show_ends : {D : Type 0} (shown_as : ShowAs) (tells : Type 0) (bytes : D → List ℕ) (failed : D → ℕ) (old new : Result D InputFault) (a : Answer)
     → AnswersShow shown_as tells bytes failed old new a → EndsShow shown_as a (own a)
-show_ends shown_as tells bytes failed (Ok old) (Ok new) a said = show_there shown_as tells (bytes old) (failed old) (failed new) a said
+show_ends shown_as tells bytes failed (Ok old) (Ok new) a said = show_volume shown_as tells (bytes old) (failed old) (failed new) a said
 show_ends shown_as tells bytes failed (Ok old) (Err fault) a said = absurd said
 show_ends shown_as tells bytes failed (Err fault) new a said = show_unread shown_as fault a said
 
@@ -229,6 +307,28 @@ open_there : (tells : Type 0) (allowed : Allowed) (v : List ℕ) (slot : Option 
 open_there tells allowed v (Some n) p before after a said = one_there tells allowed v n p before after a said
 open_there tells allowed v None p before after a said = any_there tells allowed v p before after a said
 
+one_underway : (tells : Type 0) (allowed : Allowed) (v : List ℕ) (n : ℕ) (p : List ℕ) (before after : ℕ) (a : Answer) → IsOneUnderway tells allowed v n p before after a → EndsOpen (Some n) a (own a)
+one_underway tells allowed v n p before after (Opens m) said = (said.1, refl)
+one_underway tells allowed v n p before after (Closed m) said = (said.1, refl)
+one_underway tells allowed v n p before after (Refused (refusal.Open f)) said = refl
+one_underway tells allowed v n p before after (Refused (refusal.Underway NoKey)) said = refl
+one_underway tells allowed v n p before after (Refused (refusal.Underway (Metadata f))) said = refl
+one_underway tells allowed v n p before after DeviceFault said = refl
+one_underway tells allowed v n p before after NoMemory said = refl
+one_underway tells allowed v n p before after a said = absurd said
+
+any_underway : (tells : Type 0) (allowed : Allowed) (v p : List ℕ) (before after : ℕ) (a : Answer) → IsAnyUnderway tells allowed v p before after a → EndsOpen None a (own a)
+any_underway tells allowed v p before after (Opens n) said = refl
+any_underway tells allowed v p before after NoneOpens said = refl
+any_underway tells allowed v p before after (Refused (refusal.Underway (Metadata f))) said = refl
+any_underway tells allowed v p before after DeviceFault said = refl
+any_underway tells allowed v p before after NoMemory said = refl
+any_underway tells allowed v p before after a said = absurd said
+
+open_underway : (tells : Type 0) (allowed : Allowed) (v : List ℕ) (slot : Option ℕ) (p : List ℕ) (before after : ℕ) (a : Answer) → IsUnderwayAnswer tells allowed v slot p before after a → EndsOpen slot a (own a)
+open_underway tells allowed v (Some n) p before after a said = one_underway tells allowed v n p before after a said
+open_underway tells allowed v None p before after a said = any_underway tells allowed v p before after a said
+
 open_wordless : (slot : Option ℕ) (is_long : Type 0) (unread : InputFault → Type 0) (a : Answer) → IsWordless is_long unread a → EndsOpen slot a (own a)
 open_wordless None is_long unread a said = wordless_ends (EndsOpen None) refl refl refl is_long unread a said
 open_wordless (Some n) is_long unread a said = wordless_ends (EndsOpen (Some n)) refl refl refl is_long unread a said
@@ -240,7 +340,8 @@ open_unread (Some n) f a is = unread_ends (EndsOpen (Some n)) refl refl f a is
 pub open_ends : {D : Type 0} (tells : Type 0) (bytes : D → List ℕ) (failed : D → ℕ) (allowed : Allowed) (slot : Option ℕ) (HasWords : List ℕ → Type 0) (is_long : Type 0) (unread : InputFault → Type 0)
     (old new : Result D InputFault) (a : Answer) → AnswersOpen tells bytes failed allowed slot HasWords is_long unread old new a → EndsOpen slot a (own a)
 open_ends tells bytes failed allowed slot HasWords is_long unread (Ok old) (Ok new) a (inl said) = open_wordless slot is_long unread a said.0
-open_ends tells bytes failed allowed slot HasWords is_long unread (Ok old) (Ok new) a (inr said) = open_there tells allowed (bytes old) slot said.passphrase (failed old) (failed new) a said.is
+open_ends tells bytes failed allowed slot HasWords is_long unread (Ok old) (Ok new) a (inr (inl said)) = open_there tells allowed (bytes old) slot said.0.passphrase (failed old) (failed new) a said.0.is
+open_ends tells bytes failed allowed slot HasWords is_long unread (Ok old) (Ok new) a (inr (inr said)) = open_underway tells allowed (bytes old) slot said.passphrase (failed old) (failed new) a said.is
 open_ends tells bytes failed allowed slot HasWords is_long unread (Ok old) (Err fault) a said = absurd said
 open_ends tells bytes failed allowed slot HasWords is_long unread (Err fault) new a (inl said) = open_wordless slot is_long unread a said
 open_ends tells bytes failed allowed slot HasWords is_long unread (Err fault) new a (inr said) = open_unread slot fault a said
@@ -495,8 +596,16 @@ rescue_there tells payload d (Refused (refusal.Backup f)) said = refl
 rescue_there tells payload d NoMemory said = refl
 rescue_there tells payload d a said = absurd said
 
+backup_underway : (tells : Type 0) (d : TwoFiles) (a : Answer) → IsUnderwayMade tells d a → EndsBackup a (own a)
+backup_underway tells d (Done slot) said = (said.1, refl)
+backup_underway tells d (Refused (refusal.Backup f)) said = refl
+backup_underway tells d (Refused (refusal.Underway (Metadata f))) said = refl
+backup_underway tells d DeviceFault said = refl
+backup_underway tells d a said = absurd said
+
 made_there : (rescue : Bool) (tells : Type 0) (payload : Data) (d : TwoFiles) (a : Answer) → IsMadeAnswer rescue tells payload d a → EndsBackup a (own a)
-made_there false tells payload d a said = backup_there tells payload d a said
+made_there false tells payload d a (inl said) = backup_there tells payload d a said.0
+made_there false tells payload d a (inr said) = backup_underway tells d a said
 made_there true tells payload d a said = rescue_there tells payload d a said
 
 not_kept_there : (tells : Type 0) (payload : Data) (v : List ℕ) (before after : ℕ) (a : Answer) → IsNotKept tells payload v before after a → EndsBackup a (own a)
@@ -509,11 +618,22 @@ without_there : (tells : Type 0) (payload : Data) (v : List ℕ) (before after :
 without_there tells payload v before after missed a (inl said) = not_kept_there tells payload v before after a said
 without_there tells payload v before after missed a (inr said) = unread_ends EndsBackup refl refl missed a said.2
 
+unkept_underway : (tells : Type 0) (v : List ℕ) (before after : ℕ) (a : Answer) → IsUnderwayUnkept tells v before after a → EndsBackup a (own a)
+unkept_underway tells v before after (Refused (refusal.Backup f)) said = refl
+unkept_underway tells v before after (Refused (refusal.Underway (Metadata f))) said = refl
+unkept_underway tells v before after a said = absurd said
+
+unmade_there : (rescue : Bool) (tells : Type 0) (payload : Data) (v : List ℕ) (before after : ℕ) (missed : InputFault) (a : Answer) → IsUnmadeAnswer rescue tells payload v before after missed a → EndsBackup a (own a)
+unmade_there false tells payload v before after missed a (inl said) = without_there tells payload v before after missed a said.0
+unmade_there false tells payload v before after missed a (inr (inl said)) = unkept_underway tells v before after a said
+unmade_there false tells payload v before after missed a (inr (inr said)) = unread_ends EndsBackup refl refl missed a said.2
+unmade_there true tells payload v before after missed a said = without_there tells payload v before after missed a said
+
 pub backup_ends : {D : Type 0} (tells : Type 0) (size : D → ℕ) (bytes : D → List ℕ) (failed : D → ℕ) (rescue : Bool) (payload : Data) (volume volume_new old new : Result D InputFault) (a : Answer)
     → AnswersBackup tells size bytes failed rescue payload volume volume_new old new a → EndsBackup a (own a)
 backup_ends tells size bytes failed rescue payload volume volume_new (Err (Unreadable reason.Exists)) new a is = subst (λ x. EndsBackup x (own x)) (sym is) refl
 backup_ends tells size bytes failed rescue payload (Ok volume) (Ok volume_new) (Ok old) (Ok new) a said = made_there rescue tells payload (pair_of size bytes failed volume volume_new old new) a said
-backup_ends tells size bytes failed rescue payload (Ok volume) (Ok volume_new) (Err missed) new a said = without_there tells payload (bytes volume) (failed volume) (failed volume_new) missed a said
+backup_ends tells size bytes failed rescue payload (Ok volume) (Ok volume_new) (Err missed) new a said = unmade_there rescue tells payload (bytes volume) (failed volume) (failed volume_new) missed a said
 backup_ends tells size bytes failed rescue payload (Err missed) volume_new old new a is = unread_ends EndsBackup refl refl missed a is
 backup_ends tells size bytes failed rescue payload volume volume_new old new a said = absurd said
 
@@ -523,6 +643,19 @@ restore_there tells payload over d (Refused (refusal.Restore f)) said = refl
 restore_there tells payload over d DeviceFault said = refl
 restore_there tells payload over d NoMemory said = refl
 restore_there tells payload over d a said = absurd said
+
+restore_underway : (tells : Type 0) (r : Restoring) (d : TwoFiles) (a : Answer) → IsUnderwayPutBack tells r d a → EndsRestore a (own a)
+restore_underway tells r d (Done slot) said = (said.1, refl)
+restore_underway tells r d (Refused (refusal.Restore f)) said = refl
+restore_underway tells r d (Refused (refusal.Underway Progressed)) said = refl
+restore_underway tells r d (Refused (refusal.Underway (Metadata f))) said = refl
+restore_underway tells r d (Refused (refusal.OtherUse found)) said = refl
+restore_underway tells r d DeviceFault said = refl
+restore_underway tells r d a said = absurd said
+
+put_back : (tells : Type 0) (r : Restoring) (d : TwoFiles) (a : Answer) → IsPutBackAnswer tells r d a → EndsRestore a (own a)
+put_back tells r d a (inl said) = restore_there tells r.payload (over_of r) d a said.0
+put_back tells r d a (inr said) = restore_underway tells r d a said
 
 -- what bars it
 restore_barred : (tells : Type 0) (r : Restoring) (b t : List ℕ) (x : Bar) → IsRestoreBar tells r b t x → (a : Answer) → a ≡ bar_answer x → EndsRestore a (own a)
@@ -534,7 +667,7 @@ restore_barred tells r b t bar.Device is a same = subst (λ y. EndsRestore y (ow
 
 restore_both : (tells : Type 0) (r : Restoring) (d : TwoFiles) (a : Answer) → AnswersBoth tells r d a → EndsRestore a (own a)
 restore_both tells r d a (inl held) = restore_barred tells r d.source d.old held.bar held.barred a held.is
-restore_both tells r d a (inr said) = restore_there tells r.payload (over_of r) d a said.1
+restore_both tells r d a (inr said) = put_back tells r d a said.1
 
 pub restore_ends : {D : Type 0} (tells : Type 0) (size : D → ℕ) (bytes : D → List ℕ) (failed : D → ℕ) (r : Restoring) (old new backup backup_new : Result D InputFault) (a : Answer)
     → AnswersRestore tells size bytes failed r old new backup backup_new a → EndsRestore a (own a)
@@ -556,9 +689,23 @@ compare_there tells payload d DeviceFault said = refl
 compare_there tells payload d NoMemory said = refl
 compare_there tells payload d a said = absurd said
 
+compare_underway : (tells : Type 0) (d : TwoFiles) (a : Answer) → IsUnderwayCompared tells d a → EndsCompare a (own a)
+compare_underway tells d (Compared c) said = current_ends (is_current c) c refl
+compare_underway tells d (Refused (refusal.Check f)) said = refl
+compare_underway tells d (Refused (refusal.Restore f)) said = refl
+compare_underway tells d (Refused (refusal.Underway Progressed)) said = refl
+compare_underway tells d (Refused (refusal.Underway (Metadata f))) said = refl
+compare_underway tells d DeviceFault said = refl
+compare_underway tells d NoMemory said = refl
+compare_underway tells d a said = absurd said
+
+compared_there : (tells : Type 0) (payload : Data) (d : TwoFiles) (a : Answer) → IsComparedAnswer tells payload d a → EndsCompare a (own a)
+compared_there tells payload d a (inl said) = compare_there tells payload d a said.0
+compared_there tells payload d a (inr said) = compare_underway tells d a said
+
 pub compare_ends : {D : Type 0} (tells : Type 0) (size : D → ℕ) (bytes : D → List ℕ) (failed : D → ℕ) (payload : Data) (old new backup backup_new : Result D InputFault) (a : Answer)
     → AnswersCompare tells size bytes failed payload old new backup backup_new a → EndsCompare a (own a)
-compare_ends tells size bytes failed payload (Ok old) (Ok new) (Ok backup) (Ok backup_new) a said = compare_there tells payload (pair_of size bytes failed backup backup_new old new) a said
+compare_ends tells size bytes failed payload (Ok old) (Ok new) (Ok backup) (Ok backup_new) a said = compared_there tells payload (pair_of size bytes failed backup backup_new old new) a said
 compare_ends tells size bytes failed payload (Ok old) new (Err missed) backup_new a is = unread_ends EndsCompare refl refl missed a is
 compare_ends tells size bytes failed payload (Err missed) new backup backup_new a is = unread_ends EndsCompare refl refl missed a is
 compare_ends tells size bytes failed payload old new backup backup_new a said = absurd said
@@ -604,11 +751,15 @@ unopened_ends slot (opening.Slot f) = refl
 unopened_ends slot opening.Device = refl
 unopened_ends slot opening.Memory = refl
 
-key_file_ends : {D : Type 0} (device : Device D) (slot : Option ℕ) (opened : Result (Option (List ℕ)) OpenFault) (old new : Result D InputFault) (a : Answer)
+refused_key_ends : (slot : Option ℕ) (f : KeyRefusal) → EndsKeepKey slot (refusal_answer f) (own (refusal_answer f))
+refused_key_ends slot (unopened.Open f) = unopened_ends slot f
+refused_key_ends slot (unopened.Underway r) = refl
+
+key_file_ends : {D : Type 0} (device : Device D) (slot : Option ℕ) (opened : Result (Option (List ℕ)) KeyRefusal) (old new : Result D InputFault) (a : Answer)
     → IsKeyFileAnswer device slot opened old new a → EndsKeepKey slot a (own a)
 key_file_ends device slot (Ok (Some key)) old new a said = kept_there device slot key new a said
 key_file_ends device slot (Ok None) old new a said = subst (λ x. EndsKeepKey slot x (own x)) (sym said.1) (shut_ends slot)
-key_file_ends device slot (Err f) old new a said = subst (λ x. EndsKeepKey slot x (own x)) (sym said.1) (unopened_ends slot f)
+key_file_ends device slot (Err f) old new a said = subst (λ x. EndsKeepKey slot x (own x)) (sym said.1) (refused_key_ends slot f)
 
 without_volume : (slot : Option ℕ) (is_long : Type 0) (unread : InputFault → Type 0) (f : InputFault) (a : Answer) → IsWordless is_long unread a ⊎ (a ≡ unread_answer f) → EndsKeepKey slot a (own a)
 without_volume slot is_long unread f a (inl said) = wordless_ends (EndsKeepKey slot) refl refl refl is_long unread a said
@@ -654,6 +805,30 @@ token_file_ends device n v before after DeviceFault old new a told said = subst 
 token_file_ends device n v before after NoMemory old new a told said = subst (λ x. EndsKeepToken x (own x)) (sym said.1) refl
 token_file_ends device n v before after shown old new a told said = absurd told
 
+-- something is under way in the metadata of the volume
+given_token_ends : {D : Type 0} (device : Device D) (n : ℕ) (copy : UnderwayCopy) (shown : Answer) (old new : Result D InputFault) (a : Answer)
+    → IsTokenGiven n copy shown → IsTokenFileAnswer device shown old new a → EndsKeepToken a (own a)
+given_token_ends device n copy (Json text) old new a told (inl said) = kept_line_ends device (line_of (string_bytes text)) new a said
+given_token_ends device n copy (Json text) old new a told (inr said) = subst (λ x. EndsKeepToken x (own x)) (sym said.1) refl
+given_token_ends device n copy (Refused (refusal.Edit NoSuchToken)) old new a told said = subst (λ x. EndsKeepToken x (own x)) (sym said.1) refl
+given_token_ends device n copy NoMemory old new a told said = subst (λ x. EndsKeepToken x (own x)) (sym said.1) refl
+given_token_ends device n copy shown old new a told said = absurd told
+
+refused_token_ends : {D : Type 0} (device : Device D) (v : List ℕ) (shown : Answer) (old new : Result D InputFault) (a : Answer)
+    → IsRefusedUnderway device.tells v shown → IsTokenFileAnswer device shown old new a → EndsKeepToken a (own a)
+refused_token_ends device v shown old new a told said =
+    subst (λ x. EndsKeepToken x (own x)) (sym (subst (λ x. IsTokenFileAnswer device x old new a) told.is said).1) refl
+
+underway_token_ends : {D : Type 0} (device : Device D) (n : ℕ) (v : List ℕ) (shown : Answer) (old new : Result D InputFault) (a : Answer)
+    → IsUnderwayShown (form.Token n) device.tells v shown ⊎ IsRefusedUnderway device.tells v shown → IsTokenFileAnswer device shown old new a → EndsKeepToken a (own a)
+underway_token_ends device n v shown old new a (inl told) said = given_token_ends device n told.copy shown old new a told.shown said
+underway_token_ends device n v shown old new a (inr told) said = refused_token_ends device v shown old new a told said
+
+volume_token_ends : {D : Type 0} (device : Device D) (n : ℕ) (v : List ℕ) (before after : ℕ) (shown : Answer) (old new : Result D InputFault) (a : Answer)
+    → IsVolumeShown (form.Token n) device.tells v before after shown → IsTokenFileAnswer device shown old new a → EndsKeepToken a (own a)
+volume_token_ends device n v before after shown old new a (inl told) said = token_file_ends device n v before after shown old new a told.0 said
+volume_token_ends device n v before after shown old new a (inr told) said = underway_token_ends device n v shown old new a told.1 said
+
 -- the volume can't be read, and so no token is shown
 unread_token_ends : {D : Type 0} (device : Device D) (f : InputFault) (shown : Answer) (old new : Result D InputFault) (a : Answer)
     → shown ≡ unread_answer f → IsTokenFileAnswer device shown old new a → EndsKeepToken a (own a)
@@ -666,7 +841,7 @@ unread_token_ends device NoMemoryToRead shown old new a is said =
 
 shown_token_ends : {D : Type 0} (device : Device D) (n : ℕ) (volume volume_new : Result D InputFault) (shown : Answer) (old new : Result D InputFault) (a : Answer)
     → AnswersShow (form.Token n) device.tells device.bytes device.failed volume volume_new shown → IsTokenFileAnswer device shown old new a → EndsKeepToken a (own a)
-shown_token_ends device n (Ok d) (Ok d_new) shown old new a told said = token_file_ends device n (device.bytes d) (device.failed d) (device.failed d_new) shown old new a told said
+shown_token_ends device n (Ok d) (Ok d_new) shown old new a told said = volume_token_ends device n (device.bytes d) (device.failed d) (device.failed d_new) shown old new a told said
 shown_token_ends device n (Ok d) (Err f) shown old new a told said = absurd told
 shown_token_ends device n (Err f) volume_new shown old new a told said = unread_token_ends device f shown old new a told said
 

@@ -9,8 +9,11 @@ use Rattle.luks_request.specs.declared.request.ShowAs.TheVariants as form
 use Rattle.luks_keeping.specs.ComparisonTexts.{is_current}
 use Rattle.luks_edit.specs.declared.edit_fault.EditFault.TheVariants.{NoSuchToken}
 use Rattle.luks_commands.specs.declared.answers.Answer.{Answer}
-use Rattle.luks_commands.specs.declared.answers.Answer.TheVariants.{Accepted, Listed, ListedFully, Mapped, Tokens, Json, Opens, Closed, NoneOpens, Matches, Differs, Done, Compared, Rescued, Refused, DeviceFault, NoMemory}
+use Rattle.luks_commands.specs.declared.answers.Answer.TheVariants.{Accepted, Listed, ListedFully, Mapped, Tokens, Json, Underway, Opens, Closed, NoneOpens, Matches, Differs, Done, Compared, Rescued, Refused, DeviceFault, NoMemory}
 use Rattle.luks_commands.specs.declared.answers.Refusal.TheVariants as refusal
+use Rattle.luks_commands.specs.declared.underway_refusal.UnderwayRefusal.TheVariants.{Metadata, NoKey, Progressed}
+use Rattle.luks_commands.specs.declared.underway_shown.UnderwayShown.TheVariants as shown
+use Rattle.luks_underway_show.specs.declared.lines.Lines.TheVariants.{Few, All}
 
 -- of every command: a file or the device failed, or memory was refused
 abbrev pub EndsAny : Answer → ℕ → Type 0
@@ -32,21 +35,29 @@ EndsCheck answer status = EndsAny answer status
 -- `show`: what is shown is of the form that was asked for
 abbrev pub EndsShow : ShowAs → Answer → ℕ → Type 0
 EndsShow form.Lines (Listed listing) status = status ≡ 0
+EndsShow form.Lines (Underway (shown.Listed listing)) status = (listing.lines ≡ Few) × (status ≡ 0)
 EndsShow form.All (ListedFully listing) status = status ≡ 0
+EndsShow form.All (Underway (shown.Listed listing)) status = (listing.lines ≡ All) × (status ≡ 0)
 EndsShow form.Map (Mapped map) status = status ≡ 0
+EndsShow form.Tables (Underway (shown.Tables table)) status = status ≡ 0
+EndsShow form.Tables (Refused refusal.NotUnderWay) status = status ≡ 1
 EndsShow form.Tokens (Tokens listing) status = status ≡ 0
+EndsShow form.Tokens (Underway (shown.Tokens tokens)) status = status ≡ 0
 EndsShow (form.Token n) (Json text) status = status ≡ 0
 EndsShow (form.Token n) (Refused (refusal.Edit NoSuchToken)) status = status ≡ 1
 EndsShow form.Json (Json text) status = status ≡ 0
 EndsShow shown_as (Refused (refusal.Check fault)) status = status ≡ 1
+EndsShow shown_as (Refused (refusal.Underway (Metadata fault))) status = status ≡ 1
 EndsShow shown_as answer status = EndsAny answer status
 
--- `open`: a keyslot that was named is the one that opens or doesn't
+-- `open`: a keyslot that was named is the one that opens or doesn't; one that holds no key is refused where it is named
 abbrev pub EndsOpen : Option ℕ → Answer → ℕ → Type 0
 EndsOpen None (Opens n) status = status ≡ 0
 EndsOpen (Some named) (Opens n) status = (n ≡ named) × (status ≡ 0)
 EndsOpen (Some named) (Closed n) status = (n ≡ named) × (status ≡ 1)
 EndsOpen None NoneOpens status = status ≡ 1
+EndsOpen (Some named) (Refused (refusal.Underway NoKey)) status = status ≡ 1
+EndsOpen slot (Refused (refusal.Underway (Metadata fault))) status = status ≡ 1
 EndsOpen slot (Refused (refusal.Open fault)) status = status ≡ 1
 EndsOpen slot (Refused refusal.LongPassphrase) status = status ≡ 1
 EndsOpen slot answer status = EndsAny answer status
@@ -129,6 +140,7 @@ abbrev pub EndsBackup : Answer → ℕ → Type 0
 EndsBackup (Done slot) status = (slot ≡ None) × (status ≡ 0)
 EndsBackup (Rescued lost) status = status ≡ 1
 EndsBackup (Refused (refusal.Backup fault)) status = status ≡ 1
+EndsBackup (Refused (refusal.Underway (Metadata fault))) status = status ≡ 1
 EndsBackup (Refused refusal.SameFile) status = status ≡ 1
 EndsBackup (Refused refusal.Exists) status = status ≡ 1
 EndsBackup answer status = EndsAny answer status
@@ -137,6 +149,8 @@ EndsBackup answer status = EndsAny answer status
 abbrev pub EndsRestore : Answer → ℕ → Type 0
 EndsRestore (Done slot) status = (slot ≡ None) × (status ≡ 0)
 EndsRestore (Refused (refusal.Restore fault)) status = status ≡ 1
+EndsRestore (Refused (refusal.Underway (Metadata fault))) status = status ≡ 1
+EndsRestore (Refused (refusal.Underway Progressed)) status = status ≡ 1
 EndsRestore (Refused refusal.SameFile) status = status ≡ 1
 EndsRestore (Refused (refusal.OtherUse found)) status = status ≡ 1
 EndsRestore (Refused refusal.Reencrypting) status = status ≡ 1
@@ -147,6 +161,8 @@ abbrev pub EndsCompare : Answer → ℕ → Type 0
 EndsCompare (Compared comparison) status = ((is_current comparison ≡ true) × (status ≡ 0)) ⊎ ((is_current comparison ≡ false) × (status ≡ 1))
 EndsCompare (Refused (refusal.Check fault)) status = status ≡ 1
 EndsCompare (Refused (refusal.Restore fault)) status = status ≡ 1
+EndsCompare (Refused (refusal.Underway (Metadata fault))) status = status ≡ 1
+EndsCompare (Refused (refusal.Underway Progressed)) status = status ≡ 1
 EndsCompare (Refused refusal.SameFile) status = status ≡ 1
 EndsCompare answer status = EndsAny answer status
 
@@ -156,6 +172,7 @@ EndsKeepKey slot (Done kept) status = (kept ≡ None) × (status ≡ 0)
 EndsKeepKey slot (Closed n) status = (slot ≡ Some n) × (status ≡ 1)
 EndsKeepKey slot NoneOpens status = (slot ≡ None) × (status ≡ 1)
 EndsKeepKey slot (Refused (refusal.Open fault)) status = status ≡ 1
+EndsKeepKey slot (Refused (refusal.Underway by_)) status = status ≡ 1
 EndsKeepKey slot (Refused refusal.LongPassphrase) status = status ≡ 1
 EndsKeepKey slot (Refused refusal.SameFile) status = status ≡ 1
 EndsKeepKey slot (Refused refusal.Exists) status = status ≡ 1
@@ -165,6 +182,7 @@ EndsKeepKey slot answer status = EndsAny answer status
 abbrev pub EndsKeepToken : Answer → ℕ → Type 0
 EndsKeepToken (Done slot) status = (slot ≡ None) × (status ≡ 0)
 EndsKeepToken (Refused (refusal.Check fault)) status = status ≡ 1
+EndsKeepToken (Refused (refusal.Underway (Metadata fault))) status = status ≡ 1
 EndsKeepToken (Refused (refusal.Edit NoSuchToken)) status = status ≡ 1
 EndsKeepToken (Refused refusal.SameFile) status = status ≡ 1
 EndsKeepToken (Refused refusal.Exists) status = status ≡ 1

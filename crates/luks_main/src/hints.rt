@@ -8,6 +8,7 @@ ghost use Rattle.luks_notes.specs.Hashed.{IsOfCommand};
 ghost use Rattle.luks_main.specs.Hashed.{own_search};
 
 use crate::refusals::fault_of;
+use crate::under_way::tell_readable;
 use luks_area::{Area, Device};
 use luks_edit_commands::{note_other_use, note_overwritten, standing_use};
 use luks_execution::{Answer, Command, InputFault, Line, OtherUse, Status};
@@ -130,7 +131,7 @@ fn tell_opened<D: Device>(
     ensures of_command { IsOfCommand result }
     ensures own { own_search line.now.command ≤ result.hashed }
 {
-    tell_instead(volume, line.volume, ended.fault(), notes);
+    tell_instead(alloc, volume, line.volume, ended.fault(), notes);
     let mut hashing = hashing_of(&line.command);
     tell_more(alloc, line, ended, volume, target, &mut hashing, notes);
     hashing
@@ -363,9 +364,10 @@ fn tell_target<D: Device>(
     }
 }
 
-/// Notes what stands in the place of a header that is so refused. Of LUKS1 the bytes of the header alone are
-/// looked at, since what stands behind them may be older than it.
+/// Notes what stands in the place of a header that is so refused, or by which command it is read all the same. Of
+/// LUKS1 the bytes of the header alone are looked at, since what stands behind them may be older than it.
 fn tell_instead<D: Device>(
+    alloc: Global,
     device: &mut D,
     file: &str,
     refused: Option<Fault>,
@@ -377,6 +379,7 @@ fn tell_instead<D: Device>(
     match refused {
         Some(Fault::NotLuks | Fault::NoSoundCopy) => tell_standing(device, file, u64::MAX, notes),
         Some(Fault::SlotState | Fault::Stripes) => tell_standing(device, file, HEADER, notes),
+        Some(Fault::Kind) => tell_readable(alloc, device, file, notes),
         _ => {}
     }
 }

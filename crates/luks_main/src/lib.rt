@@ -15,6 +15,7 @@ mod searching;
 mod thorough;
 mod told;
 mod tried;
+mod under_way;
 mod written_over;
 
 pub use running::run;

@@ -1,8 +1,10 @@
 //! The fault by which an answer refuses.
 ghost use Rattle.std.specs.Prelude.{◌≡◌};
 ghost use Rattle.luks_commands.specs.Answer.{refusal_text};
+ghost use Rattle.luks_commands.specs.UnderwayTexts.{underway_refusal_text};
 ghost use Rattle.luks_explain.specs.Names.{fault_named, name_in};
 
+use luks_commands::UnderwayRefusal;
 use luks_execution::Refusal;
 use luks_explain::Fault;
 
@@ -27,5 +29,18 @@ pub(crate) fn fault_of(refusal: &Refusal) -> Option<Fault>
         Refusal::OtherUse(_) => Some(Fault::OtherUse),
         Refusal::OtherVolume => Some(Fault::OtherVolume),
         Refusal::Reencrypting => Some(Fault::Reencrypting),
+        Refusal::Underway(refusal) => underway_fault_of(refusal),
+        Refusal::NotUnderWay => Some(Fault::NotUnderWay),
+    }
+}
+
+/// The fault by which a volume is refused in which something is under way.
+fn underway_fault_of(refusal: &UnderwayRefusal) -> Option<Fault>
+    ensures { result ≡ fault_named (name_in (underway_refusal_text refusal.now)) }
+{
+    match refusal {
+        UnderwayRefusal::Metadata(fault) => Fault::of_wide(fault),
+        UnderwayRefusal::NoKey => Some(Fault::NoKey),
+        UnderwayRefusal::Progressed => Some(Fault::Progressed),
     }
 }

@@ -7,7 +7,7 @@ use Rattle.std.proofs.lemmas.Bool.{lt-ltb}
 use Rattle.luks_area.specs.declared.area.Area.{Area as TheArea}
 use Rattle.luks_map.specs.declared.part.Part.{Part}
 use Rattle.luks_map.specs.Texts.{part_text}
-use Rattle.luks_map.specs.Drawing.{area_line, column, end_line, gap_line, outside_text, overlap_text}
+use Rattle.luks_map.specs.Drawing.{area_line, backup_line, column, end_line, gap_line, outside_text, overlap_text}
 
 -- a number as `{n:>20}` writes it
 abbrev pub right : ℕ → List ℕ
@@ -51,3 +51,14 @@ pub area_drawn : (total reached : ℕ) (part : Part) (a : TheArea) →
 area_drawn total reached part a =
     rw (column_is a.start, column_is a.len)
     (joined_area (column a.start) (column a.len) (part_text part) (outside_text total (a.start + a.len)) (overlap_text total reached a))
+
+joined_backup : (p l n o : List ℕ) →
+    p ++ (codes " = " ++ (l ++ (codes "  segment " ++ (n ++ (codes " backup" ++ (o ++ 10 ∷ []))))))
+    ≡ p ++ codes " = " ++ l ++ codes "  segment " ++ n ++ codes " backup" ++ line o
+joined_backup p l n o = simp append_assoc refl
+
+pub backup_drawn : (total n : ℕ) (a : TheArea) →
+    right a.start ++ (codes " = " ++ (right a.len ++ (codes "  segment " ++ (decimal n ++ (codes " backup" ++ (outside_text total (a.start + a.len) ++ 10 ∷ []))))))
+    ≡ backup_line total n a
+backup_drawn total n a =
+    rw (column_is a.start, column_is a.len) (joined_backup (column a.start) (column a.len) (decimal n) (outside_text total (a.start + a.len)))

@@ -2,3 +2,4 @@ mod ColumnFacts
 mod OrderFacts
 mod LineFacts
 mod RowFacts
+mod UnderwayFacts

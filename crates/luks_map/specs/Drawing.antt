@@ -5,7 +5,7 @@ use Rattle.luks_area.specs.declared.area.Area.{Area as TheArea}
 use Rattle.luks_show.specs.Texts.{line}
 use Rattle.luks_map.specs.declared.part.Part.{Part}
 use Rattle.luks_map.specs.declared.row.Row.{Row}
-use Rattle.luks_map.specs.declared.row.Row.TheVariants.{Area, KeyAreasEnd, VolumeEnd}
+use Rattle.luks_map.specs.declared.row.Row.TheVariants.{Area, KeyAreasEnd, VolumeEnd, Backup}
 use Rattle.luks_map.specs.Texts.{part_text}
 use Rattle.luks_map.specs.Rows.{place, reach}
 
@@ -35,10 +35,16 @@ area_line total reached part a =
 abbrev pub end_line : ℕ → ℕ → List ℕ → List ℕ
 end_line total at name = column at ++ codes " -                       " ++ name ++ line (outside_text total at)
 
+-- a segment that is kept as a backup: its place, its length, its number
+abbrev pub backup_line : ℕ → ℕ → TheArea → List ℕ
+backup_line total n a =
+    column a.start ++ codes " = " ++ column a.len ++ codes "  segment " ++ decimal n ++ codes " backup" ++ line (outside_text total (a.start + a.len))
+
 abbrev pub row_line : ℕ → ℕ → Row → List ℕ
 row_line total reached (Area part a) = area_line total reached part a
 row_line total reached (KeyAreasEnd header keyslots) = end_line total (2 * header + keyslots) (codes "end of the key areas")
 row_line total reached (VolumeEnd at) = end_line total at (codes "end of the volume")
+row_line total reached (Backup n a) = backup_line total n a
 
 -- the gap between two places, where there is one: its place and its length
 abbrev pub gap_line : ℕ → ℕ → ℕ → List ℕ

@@ -1,7 +1,7 @@
 //! The lines of a map.
 ghost use Rattle.std.specs.Prelude.{◌≡◌, ◌<◌, ◌^◌, max};
 ghost use Rattle.std.specs.Fmt.{WritesOnOk};
-ghost use Rattle.luks_map.specs.Drawing.{area_line, end_line, gap_line, map_lines, outside_text, overlap_mark, overlap_text};
+ghost use Rattle.luks_map.specs.Drawing.{area_line, backup_line, end_line, gap_line, map_lines, outside_text, overlap_mark, overlap_text};
 ghost use Rattle.luks_map.specs.Drawing.{row_line};
 
 use crate::part::Part;
@@ -62,6 +62,7 @@ fn draw_row<W: fmt::Write>(
         Row::Area(part, area) => draw_area(total, reached, *part, area, f),
         Row::KeyAreasEnd { .. } => draw_end(total, row.place(), "end of the key areas", f),
         Row::VolumeEnd(_) => draw_end(total, row.place(), "end of the volume", f),
+        Row::Backup(n, area) => draw_backup(total, *n, area, f),
     }
 }
 
@@ -79,6 +80,20 @@ fn draw_area<W: fmt::Write>(
     let outside = outside_mark(total, end_of(area));
     let overlap = overlap_mark(total, reached, area);
     writeln!(f, "{start:>20} # {len:>20}  {part}{outside}{overlap}")
+}
+
+fn draw_backup<W: fmt::Write>(
+    total: u64,
+    n: u8,
+    area: &Area,
+    f: &mut fmt::Formatter<W>,
+) -> fmt::Result
+    ensures { WritesOnOk W.write_str_gives f.old result (backup_line total n area.now) f.new }
+{
+    let start = area.start;
+    let len = area.len;
+    let outside = outside_mark(total, end_of(area));
+    writeln!(f, "{start:>20} = {len:>20}  segment {n} backup{outside}")
 }
 
 fn draw_end<W: fmt::Write>(

@@ -8,6 +8,7 @@ mod luks2;
 mod map;
 mod part;
 mod row;
+mod underway;
 
 pub use map::HeaderMap;
 pub use part::Part;

@@ -6,8 +6,10 @@ use crate::drawing::draw_rows;
 use crate::luks1::luks1_rows;
 use crate::luks2::luks2_rows;
 use crate::row::Row;
+use crate::underway::underway_rows;
 use arrayvec::ArrayVec;
 use luks_show::Listing;
+use luks_wider::Underway;
 use std::fmt;
 
 /// The most rows that a map has without its gaps: the areas, and two ends.
@@ -24,7 +26,8 @@ pub struct HeaderMap {
 }
 
 impl HeaderMap {
-    ghost use Rattle.luks_map.specs.Map.{IsMap};
+    ghost use Rattle.luks_map.specs.Map.{IsMap, IsUnderwayMap};
+    ghost use Rattle.luks_wider.specs.Underways.{content};
 
     /// The map of a volume of `total` bytes with this header.
     pub fn of(listing: &Listing, total: u64) -> HeaderMap
@@ -33,6 +36,16 @@ impl HeaderMap {
         let mut rows = rows_of(listing, total);
         put_in_order(rows.as_mut_slice());
         HeaderMap { rows, total }
+    }
+
+    /// The map of a volume of `total` bytes in whose metadata something is under way, with a header of copies of so
+    /// many bytes.
+    pub fn of_underway(header_size: u64, meta: &Underway, total: u64) -> HeaderMap
+        ensures { IsUnderwayMap header_size (content meta.now) total result }
+    {
+        let mut parts = underway_rows(header_size, meta, total);
+        put_in_order(parts.as_mut_slice());
+        HeaderMap { rows: parts, total }
     }
 }
 

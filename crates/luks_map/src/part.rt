@@ -22,6 +22,8 @@ pub enum Part {
     Luks2Keyslot(u8),
     /// The segment of this number.
     Segment(u8),
+    /// The segment of this number, which is the part in hand of a reencryption.
+    InHand(u8),
 }
 
 impl Part {
@@ -45,7 +47,7 @@ impl Part {
             Part::Luks1Header | Part::FirstCopy => 2,
             Part::SecondCopy => 3,
             Part::Luks1Keyslot(n, _) | Part::Luks2Keyslot(n) => 4 + u16::from(n),
-            Part::Segment(n) => 260 + u16::from(n),
+            Part::Segment(n) | Part::InHand(n) => 260 + u16::from(n),
         }
     }
 }
@@ -62,6 +64,7 @@ impl fmt::Display for Part {
             Part::Luks1Keyslot(n, SlotState::Disabled) => write!(f, "keyslot {n} disabled"),
             Part::Luks2Keyslot(n) => write!(f, "keyslot {n}"),
             Part::Segment(n) => write!(f, "segment {n}"),
+            Part::InHand(n) => write!(f, "segment {n} in hand"),
         }
     }
 }

@@ -20,6 +20,9 @@ pub enum Row {
     },
     /// The end of a volume of so many bytes.
     VolumeEnd(u64),
+    /// Where the segment of this number lies that is kept as a backup: it says how data was or will be, and no
+    /// data is read by it.
+    Backup(u8, Area),
 }
 
 impl Default for Row {
@@ -30,12 +33,12 @@ impl Default for Row {
 }
 
 impl Row {
-    /// Where the row stands: where an area begins, or what ends there.
+    /// Where the row stands: where an area or a backup begins, or what ends there.
     pub(crate) fn place(&self) -> u128
         ensures { result ≡ place self.now }
     {
         match self {
-            Row::Area(_, area) => u128::from(area.start),
+            Row::Area(_, area) | Row::Backup(_, area) => u128::from(area.start),
             Row::KeyAreasEnd {
                 header_size,
                 keyslots_size,
@@ -50,6 +53,7 @@ impl Row {
     {
         match self {
             Row::Area(_, area) => end_of(area),
+            Row::Backup(_, area) => u128::from(area.start),
             Row::KeyAreasEnd {
                 header_size,
                 keyslots_size,
@@ -66,6 +70,7 @@ impl Row {
             Row::Area(part, _) => part.rank(),
             Row::KeyAreasEnd { .. } => 0,
             Row::VolumeEnd(_) => 1,
+            Row::Backup(n, _) => 260 + u16::from(*n),
         }
     }
 }

@@ -90,6 +90,8 @@ pub enum ShowAs {
     Token(u8),
     /// A map of its areas.
     Map,
+    /// The table of dmsetup by which its data is read, where something is under way in it.
+    Tables,
     /// One JSON object, for scripts.
     Json,
 }

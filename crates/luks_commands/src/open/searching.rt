@@ -125,16 +125,19 @@ fn opens<D: Device, E: Write>(
     } = *trial;
     let opened = open_header_slot(alloc, device, header, n, passphrase, allowed);
     match &opened {
-        Err(OpenFault::Device) => {
-            let _ = writeln!(
-                err,
-                "luks: {volume}: keyslot {n} couldn't be read, and was passed over"
-            );
-        }
+        Err(OpenFault::Device) => note_unread(volume, n, err),
         Err(OpenFault::Memory) => note_wanting(header, n, device.len(), allowed, err),
         _ => {}
     }
     is_opened(&opened)
+}
+
+/// Says that a keyslot couldn't be read.
+pub(crate) fn note_unread<E: Write>(volume: &str, n: u8, err: &mut E) {
+    let _ = writeln!(
+        err,
+        "luks: {volume}: keyslot {n} couldn't be read, and was passed over"
+    );
 }
 
 /// Whether opening a keyslot gave a key.

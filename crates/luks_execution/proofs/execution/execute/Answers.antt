@@ -1,9 +1,15 @@
+use Rattle.std.proofs.Common.{refl, Result, Ok, Err, IfErr}
 use Rattle.luks_commands.proofs.FileFacts.{settled_kept}
 use Rattle.luks_commands.proofs.FormatFacts.{format_holds}
 use Rattle.luks_header_commands.proofs.TargetFacts.{header_holds}
 use Rattle.luks_header_commands.proofs.TryingFacts.{rebuild_holds}
 use Rattle.luks_keeping_commands.proofs.RestoreFacts.{restore_holds}
 use Rattle.luks_execution.proofs.execution.execute.Goals as goal
+
+-- both hold where the volume isn't there
+both : {T F : Type 0} {P Q : Type 0} (volume : Result T F) → IfErr volume (λ _. P) → Q → IfErr volume (λ _. P × Q)
+both (Ok d) first second = tt
+both (Err f) first second = (first, second)
 
 pub returns-in-Open-clause-executes : goal.returns-in-Open-clause-executes
 returns-in-Open-clause-executes g c = rw c.in-Open.is (record { kept = c.run-in-Open.ensures.answers })
@@ -140,3 +146,73 @@ returns-in-KeepToken-clause-executes g c = rw c.in-KeepToken.is (record {
 pub returns-in-KeepToken-clause-settled : goal.returns-in-KeepToken-clause-settled
 returns-in-KeepToken-clause-settled g c = rw c.in-KeepToken.is (settled_kept g.D.Device.tells g.D.Device.size g.D.Device.failed g.D.Device.bytes g.D.Device.unsettled _ _
     c.requires.settled c.run-in-KeepToken.ensures.unchanged)
+
+pub returns-in-Show-clause-unchanged : goal.returns-in-Show-clause-unchanged
+returns-in-Show-clause-unchanged g c = rw c.in-Show.is c.run-in-Show.ensures.unchanged
+
+pub returns-in-Open-clause-unchanged : goal.returns-in-Open-clause-unchanged
+returns-in-Open-clause-unchanged g c = rw c.in-Open.is c.run-in-Open.ensures.unchanged
+
+pub returns-in-Backup-clause-unchanged : goal.returns-in-Backup-clause-unchanged
+returns-in-Backup-clause-unchanged g c = rw c.in-Backup.is c.run-in-Backup.ensures.unchanged
+
+pub returns-in-Compare-clause-unchanged : goal.returns-in-Compare-clause-unchanged
+returns-in-Compare-clause-unchanged g c = rw c.in-Compare.is c.run-in-Compare.ensures.unchanged
+
+pub returns-in-KeepKey-clause-unchanged : goal.returns-in-KeepKey-clause-unchanged
+returns-in-KeepKey-clause-unchanged g c = rw c.in-KeepKey.is c.run-in-KeepKey.ensures.unchanged
+
+pub returns-in-KeepToken-clause-unchanged : goal.returns-in-KeepToken-clause-unchanged
+returns-in-KeepToken-clause-unchanged g c = rw c.in-KeepToken.is c.run-in-KeepToken.ensures.unchanged
+
+pub returns-in-Restore-clause-unchanged : goal.returns-in-Restore-clause-unchanged
+returns-in-Restore-clause-unchanged g c = rw c.in-Restore.is tt
+
+pub returns-in-Restore-clause-settled : goal.returns-in-Restore-clause-settled
+returns-in-Restore-clause-settled g c = rw c.in-Restore.is tt
+
+pub returns-in-Show-clause-target : goal.returns-in-Show-clause-target
+returns-in-Show-clause-target g c = rw c.in-Show.is refl
+
+pub returns-in-Open-clause-target : goal.returns-in-Open-clause-target
+returns-in-Open-clause-target g c = rw c.in-Open.is c.run-in-Open.ensures.target
+
+pub returns-in-Backup-clause-target : goal.returns-in-Backup-clause-target
+returns-in-Backup-clause-target g c = rw c.in-Backup.is tt
+
+pub returns-in-Restore-clause-target : goal.returns-in-Restore-clause-target
+returns-in-Restore-clause-target g c = rw c.in-Restore.is tt
+
+pub returns-in-Compare-clause-target : goal.returns-in-Compare-clause-target
+returns-in-Compare-clause-target g c = rw c.in-Compare.is tt
+
+pub returns-in-KeepKey-clause-target : goal.returns-in-KeepKey-clause-target
+returns-in-KeepKey-clause-target g c = rw c.in-KeepKey.is tt
+
+pub returns-in-KeepToken-clause-target : goal.returns-in-KeepToken-clause-target
+returns-in-KeepToken-clause-target g c = rw c.in-KeepToken.is tt
+
+pub returns-in-Show-clause-unread : goal.returns-in-Show-clause-unread
+returns-in-Show-clause-unread g c = both c.args.inputs.now.volume c.run-in-Show.ensures.unread c.run-in-Show.ensures.kinds
+
+pub returns-in-Open-clause-unread : goal.returns-in-Open-clause-unread
+returns-in-Open-clause-unread g c = both c.args.inputs.now.volume c.run-in-Open.ensures.unread c.run-in-Open.ensures.kinds
+
+pub returns-in-Backup-clause-unread : goal.returns-in-Backup-clause-unread
+returns-in-Backup-clause-unread g c = both c.args.inputs.now.volume c.run-in-Backup.ensures.unread c.run-in-Backup.ensures.kinds
+
+pub returns-in-Restore-clause-unread : goal.returns-in-Restore-clause-unread
+returns-in-Restore-clause-unread g c = both c.args.inputs.now.volume c.run-in-Restore.ensures.unread c.run-in-Restore.ensures.kinds
+
+pub returns-in-Compare-clause-unread : goal.returns-in-Compare-clause-unread
+returns-in-Compare-clause-unread g c = both c.args.inputs.now.volume c.run-in-Compare.ensures.unread c.run-in-Compare.ensures.kinds
+
+pub returns-in-KeepKey-clause-unread : goal.returns-in-KeepKey-clause-unread
+returns-in-KeepKey-clause-unread g c = both c.args.inputs.now.volume c.run-in-KeepKey.ensures.unread c.run-in-KeepKey.ensures.kinds
+
+pub returns-in-KeepToken-clause-unread : goal.returns-in-KeepToken-clause-unread
+returns-in-KeepToken-clause-unread g c = both c.args.inputs.now.volume c.run-in-KeepToken.ensures.unread c.run-in-KeepToken.ensures.kinds
+
+pub returns-in-Open-clause-settled : goal.returns-in-Open-clause-settled
+returns-in-Open-clause-settled g c = rw c.in-Open.is (settled_kept g.D.Device.tells g.D.Device.size g.D.Device.failed g.D.Device.bytes g.D.Device.unsettled _ _
+    c.requires.settled c.run-in-Open.ensures.unchanged)

@@ -2,14 +2,14 @@ use Rattle.std.proofs.Common.{◌≡◌, ℕ, ◌+◌, ◌-◌, ◌*◌, ◌≤�
 use Rattle.std.proofs.lemmas.Bool.{false≢true}
 use Rattle.std.proofs.lemmas.Result.{IfOk-weaker}
 use Rattle.luks_area.specs.Ranges.{part}
-use Rattle.luks_finding.proofs.MetadataFacts.{candidate-faultless, candidate-holds, candidate-of, has-text, memory-result}
+use Rattle.luks_finding.proofs.MetadataFacts.{metadata-faultless, metadata-holds, metadata-of, has-text, memory-result}
 use Rattle.luks_finding.proofs.metadata.is_whole.Goals as goal
 
 pub returns-then-not-branch-clause-whole : goal.returns-then-not-branch-clause-whole
 returns-then-not-branch-clause-whole g c = λ t. (
   λ f. absurd (false≢true f),
   λ whole.
-      let holds = candidate-holds (g.D.Device.bytes c.args.device.now) (512 * c.args.sector) c.args.place whole in
+      let holds = metadata-holds (g.D.Device.bytes c.args.device.now) (512 * c.args.sector) c.args.place whole in
       absurd (false≢true (sym c.if-not-branch.true ∙ c.in_ok-may_hold_text.ensures.text t holds.0 holds.1)),
 )
 
@@ -29,8 +29,8 @@ returns-clause-whole g c = λ t.
     let read : c.deref.result.now ≡ part v (s + c.args.place.at + 4096) (c.args.place.size - 4096) =
     c.deref.ensures.value ∙ c.in_ok-json.ensures.read t ∙ ap (λ w. part w (s + c.args.place.at + 4096) (c.args.place.size - 4096)) (c.in_ok-may_hold_text.ensures.unchanged.same t) in
     IfOk-weaker c.is_faultless.result _ _ (λ is so. (
-      λ yes. candidate-of v c.deref.result.now s c.args.place c.requires.listed c.requires.half inside read (so.0 yes),
-      λ whole. so.1 (candidate-faultless v c.deref.result.now s c.args.place read whole),
+      λ yes. metadata-of v c.deref.result.now s c.args.place c.requires.listed c.requires.half inside read (so.0 yes),
+      λ whole. so.1 (metadata-faultless v c.deref.result.now s c.args.place read whole),
     )) c.is_faultless.ensures.faultless
 
 pub returns-clause-memory : goal.returns-clause-memory

@@ -1,19 +1,17 @@
 use Rattle.std.proofs.Common.{List, ℕ, sym, subst, inl, inr}
-use Rattle.luks_keeping_commands.specs.Restoring.{over_of, KeepsRest}
-use Rattle.luks_keeping_commands.proofs.RestoreFacts.{answer_after, keeps_same}
+use Rattle.luks_keeping_commands.specs.Restoring.{KeepsRest}
+use Rattle.luks_keeping_commands.proofs.Lifted.{after_both}
+use Rattle.luks_keeping_commands.proofs.RestoreFacts.{keeps_after, keeps_same, put_after}
 use Rattle.luks_keeping_commands.proofs.restore.put_unless.Goals as goal
 
 pub returns-in-Ok-clause-answers : goal.returns-in-Ok-clause-answers
 returns-in-Ok-clause-answers g c = inr (
   c.in-Ok.ensures.clear,
-  answer_after g.D.Device.tells c.args.restoring.now.payload (over_of c.args.restoring.now)
-      (g.D.Device.bytes c.args.backup.now) (g.D.Device.bytes c.judge_volume.new.backup)
-      (g.D.Device.bytes c.args.volume.now) (g.D.Device.bytes c.judge_volume.new.volume) (g.D.Device.bytes c.put_back.new.volume)
-      (g.D.Device.size c.args.volume.now) (g.D.Device.size c.judge_volume.new.volume)
-      (g.D.Device.failed c.args.backup.now) (g.D.Device.failed c.judge_volume.new.backup) (g.D.Device.failed c.put_back.new.backup)
-      (g.D.Device.failed c.args.volume.now) (g.D.Device.failed c.judge_volume.new.volume) (g.D.Device.failed c.put_back.new.volume)
-      c.in-Ok.ensures.kept.same c.in-Ok.ensures.unchanged.same c.in-Ok.ensures.count.0 c.in-Ok.ensures.count.1
-      c.put_back.result c.put_back.ensures.answers,
+  put_after g.D.Device.tells c.args.restoring.now _ _
+      (after_both g.D.Device.tells g.D.Device.size g.D.Device.bytes g.D.Device.failed c.args.backup.now c.judge_volume.new.backup c.put_back.new.backup
+      c.args.volume.now c.judge_volume.new.volume c.put_back.new.volume
+      c.in-Ok.ensures.kept.same c.in-Ok.ensures.count.0 c.in-Ok.ensures.unchanged.same c.in-Ok.ensures.unchanged.size c.in-Ok.ensures.count.1)
+      _ c.put_back.ensures.answers,
 )
 
 pub returns-in-Err-clause-answers : goal.returns-in-Err-clause-answers
@@ -39,3 +37,9 @@ returns-in-Err-2-clause-rest g c = λ tells.
     let b : List ℕ = g.D.Device.bytes c.args.backup.now in
     let t : List ℕ = g.D.Device.bytes c.args.volume.now in
     subst (KeepsRest c.args.restoring.now.payload b t) (sym (c.in-Err.ensures.unchanged.same tells)) (keeps_same c.args.restoring.now.payload b t)
+
+pub returns-in-Ok-clause-rest : goal.returns-in-Ok-clause-rest
+returns-in-Ok-clause-rest g c = λ told.
+    let bytes = g.D.Device.bytes in
+    keeps_after c.args.restoring.now.payload (bytes c.args.backup.now) (bytes c.judge_volume.new.backup) (bytes c.args.volume.now) (bytes c.judge_volume.new.volume)
+    (bytes c.put_back.new.volume) (c.in-Ok.ensures.kept.same told) (c.in-Ok.ensures.unchanged.same told) (c.put_back.ensures.rest told)

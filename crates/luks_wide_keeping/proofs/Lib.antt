@@ -1,0 +1,6 @@
+pub mod LayoutFacts
+pub mod CopyFacts
+pub mod PlacesFacts
+pub mod StandingFacts
+pub mod MadeFacts
+pub mod RestoredFacts
