@@ -7,9 +7,9 @@ use Rattle.luks_keeping_commands.proofs.RestoreFacts.{restore_holds}
 use Rattle.luks_execution.proofs.execution.execute.Goals as goal
 
 -- both hold where the volume isn't there
-both : {T F : Type 0} {P Q : Type 0} (volume : Result T F) → IfErr volume (λ _. P) → Q → IfErr volume (λ _. P × Q)
-both (Ok d) first second = tt
-both (Err f) first second = (first, second)
+both : {T F : Type 0} (P Q : Type 0) (volume : Result T F) → IfErr volume (λ _. P) → Q → IfErr volume (λ _. P × Q)
+both P Q (Ok d) first second = tt
+both P Q (Err f) first second = (first, second)
 
 pub returns-in-Open-clause-executes : goal.returns-in-Open-clause-executes
 returns-in-Open-clause-executes g c = rw c.in-Open.is (record { kept = c.run-in-Open.ensures.answers })
@@ -94,6 +94,10 @@ returns-in-Show-clause-settled g c = rw c.in-Show.is (settled_kept g.D.Device.te
 pub returns-in-Convert-clause-settled : goal.returns-in-Convert-clause-settled
 returns-in-Convert-clause-settled g c = rw c.in-Convert.is (settled_kept g.D.Device.tells g.D.Device.size g.D.Device.failed g.D.Device.bytes g.D.Device.unsettled _ _
     c.requires.settled c.run-in-Convert.ensures.unchanged)
+
+pub returns-in-Rebuild-clause-settled : goal.returns-in-Rebuild-clause-settled
+returns-in-Rebuild-clause-settled g c = rw c.in-Rebuild.is (settled_kept g.D.Device.tells g.D.Device.size g.D.Device.failed g.D.Device.bytes g.D.Device.unsettled _ _
+    c.requires.settled c.run-in-Rebuild.ensures.unchanged)
 
 pub returns-in-Backup-clause-settled : goal.returns-in-Backup-clause-settled
 returns-in-Backup-clause-settled g c = rw c.in-Backup.is (settled_kept g.D.Device.tells g.D.Device.size g.D.Device.failed g.D.Device.bytes g.D.Device.unsettled _ _
@@ -193,25 +197,25 @@ pub returns-in-KeepToken-clause-target : goal.returns-in-KeepToken-clause-target
 returns-in-KeepToken-clause-target g c = rw c.in-KeepToken.is tt
 
 pub returns-in-Show-clause-unread : goal.returns-in-Show-clause-unread
-returns-in-Show-clause-unread g c = both c.args.inputs.now.volume c.run-in-Show.ensures.unread c.run-in-Show.ensures.kinds
+returns-in-Show-clause-unread g c = both _ _ c.args.inputs.now.volume c.run-in-Show.ensures.unread c.run-in-Show.ensures.kinds
 
 pub returns-in-Open-clause-unread : goal.returns-in-Open-clause-unread
-returns-in-Open-clause-unread g c = both c.args.inputs.now.volume c.run-in-Open.ensures.unread c.run-in-Open.ensures.kinds
+returns-in-Open-clause-unread g c = both _ _ c.args.inputs.now.volume c.run-in-Open.ensures.unread c.run-in-Open.ensures.kinds
 
 pub returns-in-Backup-clause-unread : goal.returns-in-Backup-clause-unread
-returns-in-Backup-clause-unread g c = both c.args.inputs.now.volume c.run-in-Backup.ensures.unread c.run-in-Backup.ensures.kinds
+returns-in-Backup-clause-unread g c = both _ _ c.args.inputs.now.volume c.run-in-Backup.ensures.unread c.run-in-Backup.ensures.kinds
 
 pub returns-in-Restore-clause-unread : goal.returns-in-Restore-clause-unread
-returns-in-Restore-clause-unread g c = both c.args.inputs.now.volume c.run-in-Restore.ensures.unread c.run-in-Restore.ensures.kinds
+returns-in-Restore-clause-unread g c = both _ _ c.args.inputs.now.volume c.run-in-Restore.ensures.unread c.run-in-Restore.ensures.kinds
 
 pub returns-in-Compare-clause-unread : goal.returns-in-Compare-clause-unread
-returns-in-Compare-clause-unread g c = both c.args.inputs.now.volume c.run-in-Compare.ensures.unread c.run-in-Compare.ensures.kinds
+returns-in-Compare-clause-unread g c = both _ _ c.args.inputs.now.volume c.run-in-Compare.ensures.unread c.run-in-Compare.ensures.kinds
 
 pub returns-in-KeepKey-clause-unread : goal.returns-in-KeepKey-clause-unread
-returns-in-KeepKey-clause-unread g c = both c.args.inputs.now.volume c.run-in-KeepKey.ensures.unread c.run-in-KeepKey.ensures.kinds
+returns-in-KeepKey-clause-unread g c = both _ _ c.args.inputs.now.volume c.run-in-KeepKey.ensures.unread c.run-in-KeepKey.ensures.kinds
 
 pub returns-in-KeepToken-clause-unread : goal.returns-in-KeepToken-clause-unread
-returns-in-KeepToken-clause-unread g c = both c.args.inputs.now.volume c.run-in-KeepToken.ensures.unread c.run-in-KeepToken.ensures.kinds
+returns-in-KeepToken-clause-unread g c = both _ _ c.args.inputs.now.volume c.run-in-KeepToken.ensures.unread c.run-in-KeepToken.ensures.kinds
 
 pub returns-in-Open-clause-settled : goal.returns-in-Open-clause-settled
 returns-in-Open-clause-settled g c = rw c.in-Open.is (settled_kept g.D.Device.tells g.D.Device.size g.D.Device.failed g.D.Device.bytes g.D.Device.unsettled _ _
