@@ -13,6 +13,9 @@ use Rattle.luks_commands.specs.declared.inputs.InputFault.TheVariants.{Unreadabl
 use Rattle.luks_commands.specs.declared.inputs.Inputs.{Inputs}
 use Rattle.luks_commands.specs.declared.inputs.Reason.TheVariants.{Exists, SameFile}
 use Rattle.luks_commands.specs.Beside.{AreOneFile}
+use Rattle.luks_commands.specs.Exit.{exit_status, IsExitStatus}
+use Rattle.luks_commands.specs.declared.answers.Status.{Status}
+use Rattle.luks_commands.specs.declared.answers.Status.TheVariants.{Done, Refused, NotInStep, Fault}
 use Rattle.luks_keeping_commands.specs.KeepingKey.{AreNotThree}
 use Rattle.luks_keeping_commands.specs.KeptFile.{IsExisting}
 use Rattle.luks_request.specs.declared.keeping.KeepingKey.{KeepingKey}
@@ -124,6 +127,21 @@ told_status : (IsText : List ℕ → Type 0) (status before after : ℕ) (held h
 told_status IsText status before after held holds n (told text is more same ends) = inl ends
 told_status IsText status before after held holds n (refused more same ends) = inr ends
 told_status IsText status before after held holds n (failed rises ends) = inr ends
+
+exit_is : (s : Status) → IsExitStatus (exit_status s)
+exit_is Done = inl refl
+exit_is Refused = inr (inl refl)
+exit_is NotInStep = inr (inr (inl refl))
+exit_is Fault = inr (inr (inr refl))
+
+exits_by : (s : Status) (n : ℕ) → (n ≡ exit_status s) ⊎ (n ≡ 4) → IsExitStatus n
+exits_by s n (inl is) = subst (λ (x : ℕ). IsExitStatus x) (sym is) (exit_is s)
+exits_by s n (inr is) = inr (inr (inr is))
+
+-- the status by which an answer is told is one of the program's
+pub told_exits : (IsText : List ℕ → Type 0) (s : Status) (before after : ℕ) (held holds : Option (List ℕ)) (n : ℕ)
+    → EndsTold IsText (exit_status s) before after held holds n → IsExitStatus n
+told_exits IsText s before after held holds n told_ = exits_by s n (told_status IsText (exit_status s) before after held holds n told_)
 
 -- the status by which an answer is told is one that its command may end with
 pub told_ends : (c : Command) (a : Answer) → EndsWith c a (own a) → (IsText : List ℕ → Type 0) (before after : ℕ) (held holds : Option (List ℕ)) (n : ℕ)
