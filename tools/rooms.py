@@ -128,6 +128,12 @@ class Task:
         return self.crate if self.verb == "lib" else f"{self.crate} ({self.verb})"
 
 
+def input_of(task, folder):
+    """What a task reads on standard input: a program its file `stdin`, where it has one."""
+    path = os.path.join(folder, "stdin")
+    return path if task.verb == "run" and os.path.isfile(path) else os.devnull
+
+
 class Runs:
     """Tasks under way, each in a room. Those that end are put into `ended`."""
 
@@ -164,8 +170,9 @@ class Runs:
         with self.lock:
             if self.stopped:
                 raise Stopped
-            process = subprocess.Popen(words, cwd=folder, stdin=subprocess.DEVNULL, stdout=subprocess.PIPE, stderr=subprocess.STDOUT,
-                                       text=True, errors="replace", start_new_session=True)
+            with open(input_of(task, folder), "rb") as given:
+                process = subprocess.Popen(words, cwd=folder, stdin=given, stdout=subprocess.PIPE, stderr=subprocess.STDOUT, text=True,
+                                           errors="replace", start_new_session=True)
             self.processes.append(process)
         give_way(process.pid, nice)
         task.text = process.communicate()[0]
