@@ -18,7 +18,7 @@ import time
 import crates
 
 GIB = 1 << 30
-# what one check takes at most, with a second processor's share
+# what a check takes at most, with a second processor's share, but for few, which take up to 8
 MEMORY_OF_A_CHECK = 5 * GIB
 
 
