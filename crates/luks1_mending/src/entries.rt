@@ -91,7 +91,7 @@ pub(crate) fn usual_sector(key_bytes: u32, n: u8) -> u32
     8 + u32::from(n) * ((sectors + 7) / 8 * 8)
 }
 
-/// Whether the keyslot `n` stands there, with the usual stripes.
+/// Whether the keyslot `n` is there, with the usual stripes.
 pub(crate) fn is_usual(header: &[u8], key_bytes: u32, n: u8) -> bool
     requires long { length header.now ≡ luks1_size }
     requires key { key_bytes ≤ 128 }

@@ -29,7 +29,7 @@ use luks1_mending::Given;
 /// Where an older LUKS2 header of the usual metadata size has its second copy.
 const OLDER_SECOND: u64 = 16384;
 
-/// Makes a detached LUKS1 header of what still stands of one in the source and of what is given, and writes it
+/// Makes a detached LUKS1 header of what is left of one in the source and of what is given, and writes it
 /// to the target, from its start on. What stood there before is overwritten without question. The source never
 /// changes.
 ///

@@ -86,8 +86,8 @@ pub fn luks2_edit_opens()
 {}
 
 /// After an edit of a well formed LUKS2 volume that nothing refused, a keyslot that it made or sealed
-/// again derives as is chosen, and says no more of it. Where nothing is chosen, a new one derives as
-/// the keyslot that was opened, and one that is sealed again as it did but for its salt and iterations.
+/// again derives as is chosen, and says no more of it. If nothing is chosen, a new one derives as
+/// the keyslot that was opened, and one that is sealed again as it did except for its salt and iterations.
 pub fn luks2_edit_derives()
     ensures { (payload : Payload) (e : TheEdit) (v random w : List ℕ) → WellFormed v payload
         → HasRanges v e random → IsUnrefused2 v payload e random

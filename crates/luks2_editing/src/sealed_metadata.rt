@@ -241,7 +241,7 @@ fn gained_fresh(
     }
 }
 
-/// The keyslot of a new volume with a key of so many bytes, but for what is new.
+/// The keyslot of a new volume with a key of so many bytes, except for what is new.
 fn fresh_keyslot<'a>(key_bytes: u8, new: &New<'a>) -> NewKeyslot<'a>
     ensures { slot_members result ≡ fresh_members key_bytes (new_members new.now) }
 {

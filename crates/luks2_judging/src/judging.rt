@@ -121,7 +121,7 @@ fn taken_by<'a, D: Device>(
 
 /// The rows from what gives the key on: `Locked`, `KeyLength`, `WrongKey`, `Slot`, `SlotTaken`, `NoFreeSlot`,
 /// `NoRoom`, `LastSlot`, `Iterations`, `Argon2`, `BadLabel`, `NoSuchToken`, `TokenTaken`, `NoFreeToken`,
-/// `UnreadableToken`, `BadUuid`. Where all keyslots are erased, none of them refuses it.
+/// `UnreadableToken`, `BadUuid`. If all keyslots are erased, none of them refuses it.
 fn judge_with_key<'a, D: Device>(
     alloc: Global,
     device: &mut D,

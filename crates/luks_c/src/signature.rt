@@ -24,7 +24,7 @@ pub struct LuksSignature {
 
 /// Tells what the signatures among the first `len` bytes show of the disk of `total` bytes of which these
 /// ranges are given: a partition table, a file system or another use, by the first row of the table that
-/// stands there.
+/// is there.
 #[unsafe(no_mangle)]
 pub extern "C" fn luks_signature_bytes(
     parts: &[Part],

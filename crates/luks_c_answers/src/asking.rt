@@ -29,7 +29,7 @@ pub struct LuksDerivation {
     pub lanes: u32,
 }
 
-/// An edit of a volume, but for its secrets and its texts.
+/// An edit of a volume, except for its secrets and its texts.
 #[repr(C)]
 #[derive(Clone, Copy, Drop)]
 pub struct LuksEdit {

@@ -31,7 +31,7 @@ struct JsonPlace {
     len: u64,
 }
 
-/// Whether the volume is in the midst of a reencryption: one of LUKS1 by what stands in the place of its
+/// Whether the volume is in the midst of a reencryption: one of LUKS1 by what is in the place of its
 /// magic, one of LUKS2 by its metadata.
 ///
 /// Takes memory for the JSON area and its value.

@@ -27,7 +27,7 @@ pub(crate) fn taken_salt(random: &[u8], at: usize) -> [u8; 64]
     salt
 }
 
-/// Writes the copy of the header that stands at the place `at`, with this uuid of 36 bytes and this
+/// Writes the copy of the header that is at the place `at`, with this uuid of 36 bytes and this
 /// salt, and flushes. Also where the device fails no byte outside the copy changes.
 pub(crate) fn write_converted_copy<D: Device>(
     device: &mut D,

@@ -119,7 +119,7 @@ pub enum Edit<'a> {
     Remove {
         /// The keyslot.
         slot: u8,
-        /// The keyslot that the secret opens, another one than `slot`. Where it isn't given, a passphrase
+        /// The keyslot that the secret opens, another one than `slot`. If it isn't given, a passphrase
         /// opens `slot`, and a key is the volume's, by no keyslot, as of `AddByKey`.
         by_: Option<u8>,
         /// The passphrase, or the key.

@@ -135,7 +135,7 @@ pub enum Fault {
     NotAccepted,
     /// Of restore: check would refuse VOLUME with this header.
     DoesNotFit,
-    /// Another volume's header stands on what would be written over.
+    /// Another volume's header is on what would be written over.
     OtherVolume,
     /// The disk has another use, which would be written over.
     OtherUse,
@@ -270,7 +270,7 @@ impl Fault {
     }
 }
 
-// What stands before the first bracket.
+// What precedes the first bracket.
 fn front(printed: &str) -> &str
     ensures { result.now ≡ name_in printed.now }
 {

@@ -33,7 +33,7 @@ struct Telling {
     as_json: bool,
 }
 
-/// Prints a line for each keyslot, digest and segment that stands whole on the file of this name, as soon as it
+/// Prints a line for each keyslot, digest and segment that is whole on the file of this name, as soon as it
 /// is found, or an object of JSON on a line; answers the exit status. `volume` is the bytes of the file at this
 /// place. `progress` is told after each step how far the search is. The first read that fails ends it.
 pub fn run<D: Device, P: Printer, E: Write, G: Progress>(

@@ -19,7 +19,7 @@ pub(crate) struct Met {
 }
 
 impl Default for Met {
-    /// None: what stands in the places where none is remembered yet.
+    /// None: what is in the places where none is remembered yet.
     fn default() -> Met {
         Met {
             uuid: [0; 40],

@@ -20,7 +20,7 @@ use sha2::{Digest, Sha256};
 /// The bytes of a binary header.
 pub(crate) const HEAD: usize = 4096;
 
-/// Where the checksum of a copy stands in its binary header, and where that field ends.
+/// Where the checksum of a copy is in its binary header, and where that field ends.
 const CSUM: usize = 448;
 
 const CSUM_END: usize = 512;

@@ -40,7 +40,7 @@ pub fn format1_random(key_bytes: u32) -> u64
     needed_bytes(false, key_bytes)
 }
 
-/// As many bytes as stand before the payload if nothing is given, and as many sectors as 32 bits tell.
+/// As many bytes as come before the payload if nothing is given, and as many sectors as 32 bits tell.
 const WANTED: Wanted = Wanted {
     most: 1 << 32,
     least: 2097152,
@@ -116,7 +116,7 @@ pub fn format1<D: Device>(
 /// and opens wherever these are accepted.
 ///
 /// The volume key is random or given; of the random bytes there are `format1_random`, also those in whose place a
-/// key or a uuid is given: these aren't used. Where the key has k bytes, each of the 3999 stripes has as many. Each
+/// key or a uuid is given: these aren't used. If the key has k bytes, each of the 3999 stripes has as many. Each
 /// key area begins at a multiple of 4096 bytes, the first one at 4096, one right behind the other.
 /// What lies where the payload begins, and behind it, stays as it is.
 pub fn format1_as<D: Device>(

@@ -61,7 +61,7 @@ pub fn format2<D: Device>(
     requires room { D.failed device.old + 1 < 2 ^ 64 }
     requires settled { D.tells → IsSettled D.unsettled device.old }
 
-    // The first fault that stands, or want of memory, and then no byte changes; else the device's.
+    // The first fault that stands, or a failed allocation, and then no byte changes; else the device's.
     ensures fault { IfErr result
         (IsAnsweredFaultOrMemory (IsFormat2Fault (D.size device.old) format.now random.now)) }
     ensures faultless { OnOk result
@@ -115,7 +115,7 @@ pub fn format2<D: Device>(
 /// allows; where nothing is chosen it is `format2`. It opens wherever as much memory is allowed as it
 /// takes, whether older ciphers and hashes are accepted or not.
 ///
-/// A key area by Argon2 is sealed in memory before the first write, so that want of memory changes no
+/// A key area by Argon2 is sealed in memory before the first write, so that a failed allocation changes no
 /// byte.
 pub fn format2_by<D: Device>(
     alloc: Global,
@@ -129,7 +129,7 @@ pub fn format2_by<D: Device>(
     requires room { D.failed device.old + 1 < 2 ^ 64 }
     requires settled { D.tells → IsSettled D.unsettled device.old }
 
-    // The first fault that stands, or want of memory, and then no byte changes; else the device's.
+    // The first fault that stands, or a failed allocation, and then no byte changes; else the device's.
     ensures fault { IfErr result
         (IsAnsweredFaultOrMemory (IsFormat2FaultBy chosen
         (allowed_for passphrase.now.allowed.memory passphrase.now.bytes.now)
@@ -182,7 +182,7 @@ pub fn format2_by<D: Device>(
 /// accepted.
 ///
 /// Of the random bytes there are `format2_random`, also those in whose place a key or a uuid is given: these aren't
-/// used. Where the key has k bytes, each of the 3999 stripes has as many.
+/// used. If the key has k bytes, each of the 3999 stripes has as many.
 /// What lies where the payload begins, and behind it, stays as it is.
 pub fn format2_as<D: Device>(
     alloc: Global,
@@ -196,7 +196,7 @@ pub fn format2_as<D: Device>(
     requires room { D.failed device.old + 1 < 2 ^ 64 }
     requires settled { D.tells → IsSettled D.unsettled device.old }
 
-    // The first fault that stands, or want of memory, and then no byte changes; else the device's.
+    // The first fault that stands, or a failed allocation, and then no byte changes; else the device's.
     ensures fault { IfErr result
         (IsAnsweredFaultOrMemory (IsFormat2FaultAs given.now passphrase.now.allowed.older chosen
         (allowed_for passphrase.now.allowed.memory passphrase.now.bytes.now)

@@ -9,7 +9,7 @@ use crate::random::{DIGEST_SALT, STRIPES, taken_array};
 use luks_reading::{Data, Format};
 use luks2_header::{Luks1, Luks1Common, Luks1Slot, SlotState};
 
-/// Where the salt of keyslot 0 stands among the random bytes, but for the length of the volume key.
+/// Where the salt of keyslot 0 stands among the random bytes, except for the length of the volume key.
 pub(crate) const SLOT_SALT: usize = 48;
 
 /// The header, whose keyslot 0 is in use.

@@ -27,7 +27,7 @@ pub(crate) const UUID: usize = 0;
 /// Where the volume key's bytes stand.
 pub(crate) const KEY: usize = 16;
 
-/// Where the 32 bytes of the digest's salt stand, but for the length of the volume key.
+/// Where the 32 bytes of the digest's salt stand, except for the length of the volume key.
 pub(crate) const DIGEST_SALT: usize = 16;
 
 /// The length of a salt of a keyslot or a digest in bytes.

@@ -140,7 +140,7 @@ impl<'a, K: Given> PlannedWrites<'a, K> {
         }
     }
 
-    /// Whether that call was to write there, and no other has failed: then none asked what stands there. Each
+    /// Whether that call was to write there, and no other has failed: then none asked what is there. Each
     /// call of the device says what becomes of it.
     pub fn is_to_write(&self) -> bool
         ensures value { result ≡ wants_to_write self.now }
@@ -204,7 +204,7 @@ impl<'a, K: Given> PlannedWrites<'a, K> {
     }
 
     /// How many of these bytes have to be written from the place `at` on, which is held from the byte `k` on:
-    /// up to the last sector of 512 in which not all are zeros, here and there. The others stand there.
+    /// up to the last sector of 512 in which not all are zeros, here and there. The others are there.
     fn changing(&self, at: u64, k: usize, from: &[u8]) -> usize
         requires { IsPlaced K.parts 0 at (at + length from.now) k }
         ensures most { result ≤ length from.now }

@@ -52,7 +52,7 @@ pub record IsWithoutRandom (tells : Type 0) (unread : InputFault → Type 0) (d 
 abbrev pub IsOtherTarget : List ℕ → List ℕ → Type 0
 IsOtherTarget v t = (field_ : Option (List ℕ)) × IsUuidOf v field_ × HasOther field_ t
 
--- what stands on the target bars the command, and nothing was done
+-- what is on the target bars the command, and nothing was done
 abbrev pub IsBarredHeader : Type 0 → Bool → Pair → Answer → Type 0
 IsBarredHeader tells over d a =
     IsHeldBack tells (IsBar tells over (IsOtherTarget d.volume d.old) d.old) (λ is_failure. CountsAfter is_failure d.volume_before d.volume_after d.before d.after) d.old d.new a

@@ -37,7 +37,7 @@ use std::io::{Read, Write};
 ///
 /// With a passphrase, which is read before the volume: what of a LUKS1 header's cipher, hash and length of the key
 /// isn't given is tried (`try_combinations`), and the header is made with the first combination by which a keyslot
-/// opens. Where what is damaged is sought, too, and none does, it is made of a header that is near to what stands and
+/// opens. If what is damaged is sought, too, and none does, it is made of a header that is near to what stands and
 /// by which a keyslot opens (`search1`). Nothing is written before one has. `progress` is told of each combination and
 /// of each derivation, and of a search for what checksums vouch for.
 pub fn run<

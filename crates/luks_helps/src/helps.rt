@@ -130,7 +130,7 @@ luks open [OPTIONS]
 /// The help of `open` after its words.
 pub const OPEN_MORE: &str = "\
 The passphrase is all bytes of its file, a last newline too, at most 65536; by
---passphrase-line what stands there before the first newline, a carriage return
+--passphrase-line what is there before the first newline, a carriage return
 too, or all where there is none. The file may be -, standard input, or
 <(printf %s ..) in a shell that has it. The volume key that is found is neither
 printed nor kept.
@@ -267,7 +267,7 @@ by luks open; then the new one does, and the old no more. LUKS2 keeps the
 keyslot's number, and takes a free area. LUKS1 makes the least keyslot that is
 free, and disables the old one. All others stay as they are. A passphrase is all
 bytes of its file, a last newline too, at most 65536; by --passphrase-line and
---new-line what stands there before the first newline. Who has the volume key
+--new-line what is there before the first newline. Who has the volume key
 gives it by --key in the place of the old passphrase, and names the keyslot.
 
 Written are, with a flush after each: the new area; then of LUKS1 the new

@@ -56,7 +56,7 @@ pub fn restore<B: Device, T: Device>(
     ensures size { T.size target.new ≡ T.size target.old }
     ensures settled { T.tells → OnOk result (IsSettled T.unsettled target.new) }
 
-    // The first fault that stands, or want of memory, and then nothing of the target changed.
+    // The first fault that stands, or a failed allocation, and then nothing of the target changed.
     ensures fault { B.tells → T.tells → IfErr result
         (IsAnsweredRestore (B.bytes backup.old) (T.bytes target.old) payload over) }
     ensures faultless { B.tells → T.tells → OnOk result
@@ -116,7 +116,7 @@ pub fn restore_header<B: Device, T: Device>(
     ensures size { T.size target.new ≡ T.size target.old }
     ensures settled { T.tells → OnOk result (IsSettled T.unsettled target.new) }
 
-    // The first fault that stands, or want of memory, and then nothing of the target changed.
+    // The first fault that stands, or a failed allocation, and then nothing of the target changed.
     ensures fault { B.tells → T.tells → IfErr result
         (IsAnsweredRestore (B.bytes backup.old) (T.bytes target.old) payload over) }
     ensures faultless { B.tells → T.tells → OnOk result

@@ -1,4 +1,4 @@
-//! What stands on a volume that a backup would be put onto.
+//! What is on a volume that a backup would be put onto.
 ghost use Rattle.std.specs.Prelude.{◌≡◌, ◌+◌, ◌<◌, ◌^◌, IfErr, IfOk, OnOk, false};
 ghost use Rattle.luks_area.specs.Device.{CountsFailure, IsUnchanged};
 ghost use Rattle.luks_writing.specs.TwoDevices.{CountsEither};

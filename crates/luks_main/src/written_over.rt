@@ -2,7 +2,7 @@
 use std::rt::Clock;
 use std::time::Duration;
 
-/// How long the line stands at least, in milliseconds.
+/// How long the line is at least, in milliseconds.
 const PAUSE: u128 = 500;
 
 /// Where a search's line stands, and since when.
@@ -13,7 +13,7 @@ pub(crate) struct WrittenOver<'a, R> {
     begun: Option<Duration>,
     /// When the line was written last, as milliseconds of the search.
     written: u128,
-    /// Whether the line stands there.
+    /// Whether the line is there.
     stands: bool,
 }
 

@@ -16,7 +16,7 @@ use crate::without::without_slot;
 use serde_json::Value;
 use std::alloc::{AllocError, Global};
 
-/// What an enabled keyslot of a LUKS1 header says, but for where its key material lies.
+/// What an enabled keyslot of a LUKS1 header says, except for where its key material lies.
 #[derive(Clone, Copy)]
 pub struct SourceSlot {
     /// The derivation's iterations.
@@ -27,7 +27,7 @@ pub struct SourceSlot {
     pub stripes: u32,
 }
 
-/// What a LUKS1 header says, but for its uuid, which isn't a member of the metadata.
+/// What a LUKS1 header says, except for its uuid, which isn't a member of the metadata.
 #[derive(Clone, Copy)]
 pub struct SourceVolume<'a> {
     /// The hash of the derivation, the splitter and the digest.

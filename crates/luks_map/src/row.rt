@@ -1,4 +1,4 @@
-//! The rows of a map, but for the gaps.
+//! The rows of a map, except for the gaps.
 ghost use Rattle.std.specs.Prelude.{◌≡◌, ◌+◌, ◌*◌};
 ghost use Rattle.luks_map.specs.Rows.{place, rank, reach};
 

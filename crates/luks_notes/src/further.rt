@@ -148,7 +148,7 @@ fn size_of<D: Device, E: Write>(
     Ok(search.found)
 }
 
-/// Says what is whole of headers of other sizes than that of which a header is made, but for what is the second
+/// Says what is whole of headers of other sizes than that of which a header is made, except for what is the second
 /// copy's.
 fn say_sizes<D: Device, E: Write>(
     alloc: Global,

@@ -38,7 +38,7 @@ pub struct KeyMatch {
 /// volume key: of LUKS1 the one that there is, of LUKS2 the one that is assigned to segment 0 (LUKS1
 /// On-Disk Format 1.2.3, 4.3; LUKS2 On-Disk Format 1.1, 3.4 and 3.5).
 ///
-/// The first refusal is answered: `Head` and `Meta` as of `open_slot`, but for keyslots,
+/// The first refusal is answered: `Head` and `Meta` as of `open_slot`, except for keyslots,
 /// `NoSuchDigest`, `KeyLength` and `Hash`; older hashes are refused where `older` isn't set. `Device`
 /// comes exactly where a device call failed. Memory is taken for the metadata of LUKS2 alone.
 pub fn match_key<D: Device>(

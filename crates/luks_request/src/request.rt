@@ -112,7 +112,7 @@ pub struct Editing<'a> {
 /// What an edit does. Its passphrases are named by their files.
 ///
 /// The keyslot that an edit names as `by_`, or else as `slot`, 0 to 31, is the one that the passphrase or
-/// the key in the file `opener` opens. Where it names none, that is the first that the passphrase opens, of
+/// the key in the file `opener` opens. If it names none, that is the first that the passphrase opens, of
 /// those that `open` tries and in its order.
 #[derive(Debug, Clone, Copy)]
 pub enum EditRequest<'a> {

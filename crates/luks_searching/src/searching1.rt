@@ -15,7 +15,7 @@ use luks_trials::{Progress, SearchFault, Tally};
 use luks1_mending::Given;
 use std::alloc::Global;
 
-/// What isn't as it stands in a header that was found.
+/// What isn't as it is in a header that was found.
 #[derive(Debug, Clone, Copy, PartialEq, Eq)]
 pub enum Change1 {
     /// Nothing: a keyslot opens by what stands.

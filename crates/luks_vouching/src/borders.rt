@@ -11,7 +11,7 @@ use crate::search::{fed, is_sum};
 use sha2::{Digest, Sha256};
 
 /// The least number of sectors of the front that, with the rest of the other area, meet the checksum,
-/// by a hasher that was fed what stands before them, if it is near enough. Behind each sector that differs
+/// by a hasher that was fed what precedes them, if it is near enough. Behind each sector that differs
 /// the rest is hashed once more.
 pub(crate) fn least_border(
     front: &[u8],

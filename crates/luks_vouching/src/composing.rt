@@ -14,7 +14,7 @@ use crate::progress::SearchProgress;
 use crate::search::{fed, search};
 use sha2::Sha256;
 
-/// Whether a composition that is tried meets the checksum, by a hasher that was fed what stands before
+/// Whether a composition that is tried meets the checksum, by a hasher that was fed what precedes
 /// it, where at most `most` bytes of areas may be hashed. Then `json` holds the first one.
 pub(crate) fn compose<P: SearchProgress>(
     first: &[u8],

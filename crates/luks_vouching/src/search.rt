@@ -9,7 +9,7 @@ use crate::areas::{SECTOR, alike};
 use crate::progress::SearchProgress;
 use sha2::{Digest, Sha256};
 
-/// Whether a composition meets the checksum, by a hasher that was fed what stands before it. Then
+/// Whether a composition meets the checksum, by a hasher that was fed what precedes it. Then
 /// `json` holds the first one that does.
 ///
 /// Where two sectors differ, the first copy's is tried with all that follows, then the second's: each

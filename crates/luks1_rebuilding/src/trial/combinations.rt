@@ -99,7 +99,7 @@ fn tried_text(of: TextField, place: u8) -> Option<&'static str>
     }
 }
 
-/// Whether this text stands in the field.
+/// Whether this text is in the field.
 fn stands(header: &[u8], of: TextField, text: &str) -> bool
     requires long { length header.now ≡ luks1_size }
     requires plain { is_plain text.now ≡ true }
