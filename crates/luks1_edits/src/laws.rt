@@ -86,7 +86,7 @@ pub fn luks1_edit_sets_uuid()
 /// key. If all keyslots were to be erased, they were so in turn. If a fault refuses the edit, no byte
 /// changed.
 ///
-/// Where the edit sets the uuid, the volume has no fault but that the uuid's field holds none, and each
+/// If the edit sets the uuid, the volume has no fault but that the uuid's field holds none, and each
 /// keyslot answers as before, or is refused for that fault.
 pub fn luks1_failing_edit()
     ensures rest { (payload : Payload) (e : TheEdit) (v random w : List ℕ)

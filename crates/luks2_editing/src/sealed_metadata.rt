@@ -196,7 +196,7 @@ fn gained(alloc: Global, meta: Meta, slot: u8, like: Like, new: &New<'_>) -> Res
     }
 }
 
-/// The same with the members of the keyslot `by_`.
+/// The metadata with a new keyslot that has the members of the keyslot `by_`.
 fn gained_like(
     alloc: Global,
     meta: Meta,
@@ -218,7 +218,7 @@ fn gained_like(
     }
 }
 
-/// The same as a new volume has it, for the digest and a key of so many bytes.
+/// The metadata with a new keyslot as a new volume has it, for the digest and a key of so many bytes.
 fn gained_fresh(
     alloc: Global,
     meta: Meta,

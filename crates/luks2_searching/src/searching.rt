@@ -145,7 +145,7 @@ fn by_step<D: Device, P: Progress>(
     Ok(None)
 }
 
-/// The same of the copies of this size.
+/// Searches the copies of this size.
 fn by_size<D: Device, P: Progress>(
     alloc: Global,
     source: &mut D,
@@ -341,7 +341,7 @@ fn mixed_by_size<D: Device, P: Progress>(
     }
 }
 
-/// The same with this area of the first copy.
+/// Tries the compositions with this area of the first copy.
 fn mixed_with<D: Device, P: Progress>(
     alloc: Global,
     source: &mut D,

@@ -45,7 +45,7 @@ pub extern "C" fn luks_signature_bytes(
     find_given::<Brand>(parts, held, total, len, told)
 }
 
-/// The same of the disk `K`, of which these are given.
+/// Finds a signature on the disk `K`, of which these ranges are given.
 fn find_given<K: Given>(
     parts: &[Part],
     held: &[u8],

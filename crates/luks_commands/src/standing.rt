@@ -17,7 +17,7 @@ use luks1_header::fields::field;
 use std::alloc::Global;
 use std::io::Write;
 
-/// Where the uuid's field of a LUKS1 header stands.
+/// The place of the uuid's field of a LUKS1 header.
 const UUID: usize = 168;
 
 const UUID_END: usize = 208;

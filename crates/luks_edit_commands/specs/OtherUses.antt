@@ -24,7 +24,7 @@ use Rattle.luks_edit_commands.specs.declared.edit.seen.Unseen.TheVariants.{Untol
 abbrev pub IsCounting : List ℕ → Bin2 → Copies → Type 0
 IsCounting v h copies = Chosen v (luks2 h.hdr_offset copies) × HoldsBin2 (header_at v h.hdr_offset) h
 
--- Before which byte the volume `v` is asked, whose copies stand so and of which the one at `place` counts. Where only
+-- Before which byte the volume `v` is asked, whose copies stand so and of which the one at `place` counts. If only
 -- the second copy is sound, the first one's place ends where it begins. If only the first one is, the second one's place
 -- ends at twice its size: none of its own bytes are those of another use, since they are summed. If both are sound, no
 -- other use has been made in their places; of what follows them it can't be told whether it is older.

@@ -5,7 +5,7 @@ ghost use Rattle.luks_explain.specs.Names.{fault_called, fault_named, name_in, n
 use crate::explanation::Explanation;
 use crate::texts::{means, next, place, safe};
 
-/// A fault by its name alone, without what it prints in brackets. Where several faults have one name,
+/// A fault by its name alone, without what it prints in brackets. If several faults have one name,
 /// as `Outside` of an area and of the keyslot to open, it stands for all of them.
 #[derive(Clone, Copy, PartialEq)]
 pub enum Fault {

@@ -80,7 +80,7 @@ fn last_of(fault: InputFault) -> Last
     }
 }
 
-/// The same of a device that is there.
+/// Lists the fragments of a device that is there.
 fn list_on<D: Device, P: Printer, E: Write, G: Progress>(
     alloc: Global,
     device: &mut D,
@@ -187,7 +187,7 @@ fn list<D: Device, P: Printer, G: Progress>(
     list_by(alloc, device, &mut block, telling, out, progress)
 }
 
-/// The same, by readings of as many bytes as `block` has.
+/// Lists them by readings of as many bytes as `block` has.
 fn list_by<D: Device, P: Printer, G: Progress>(
     alloc: Global,
     device: &mut D,

@@ -94,7 +94,7 @@ abbrev pub passed_by : Further → List Passed
 passed_by (further.Step step) = []
 passed_by (further.Passed x) = x ∷ []
 
--- Where all starts with a sign that can be read before the sector `from` were told, all such starts before the sector `next`
+-- If all starts with a sign that can be read before the sector `from` were told, all such starts before the sector `next`
 -- are told with what the step tells, where what it passes over counts as passed over.
 abbrev pub TellsFurther : List ℕ → List ℕ → ℕ → ℕ → Further → Type 0
 TellsFurther v told from next f = (passed : List Passed) → AreReadTo v passed from told → AreReadTo v (passed ++ passed_by f) next (told ++ told_by f)

@@ -1,4 +1,4 @@
--- Where LUKS volumes begin on a disk, by what is left of them.
+-- The places where LUKS volumes begin on a disk, by what is left of them.
 use Rattle.std.specs.Prelude.{◌≡◌, ◌≢◌, ℕ, ◌+◌, ◌*◌, ◌<◌, ◌≤◌, ◌⊎◌, ◌==◌, List, codes, drop, length, slice_index, if◌then◌else◌}
 use Rattle.luks_area.specs.Ranges.{part}
 use Rattle.luks1_header.specs.Header1.{header_text, key_bytes_of, luks_magic, luks1_size, mk_digest_iterations_of, version_of, HasMagic}

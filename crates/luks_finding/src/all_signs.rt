@@ -133,7 +133,7 @@ fn first_sign_of<D: Device>(
     }
 }
 
-/// The same of a second copy.
+/// The sign of a second copy.
 fn second_sign_of<D: Device>(
     alloc: Global,
     device: &mut D,

@@ -132,7 +132,7 @@ impl Finding {
         }
     }
 
-    /// The same of a disk that can't be read everywhere, of which the starts in `told` were told: it
+    /// Makes a step on a disk that can't be read everywhere, of which the starts in `told` were told: it
     /// tells the others of which a sign is at the next sector at which something begins, whatever
     /// comes before. So none is told twice, and one is told by what is left of it where that can be read.
     ///

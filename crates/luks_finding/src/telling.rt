@@ -239,7 +239,7 @@ fn begins_with(beginning: &[u8], magic: [u8; 6]) -> bool
     field(beginning, 0, 6) == magic.as_slice()
 }
 
-/// The same of metadata of a second copy of `size` bytes.
+/// The start by metadata of a second copy of `size` bytes.
 fn second_start<D: Device>(
     alloc: Global,
     device: &mut D,

@@ -47,11 +47,11 @@ const WANTED: Wanted = Wanted {
     second: false,
 };
 
-/// Where an older LUKS2 header of the usual metadata size has its second copy. The place lies in the
+/// The place of the second copy of an older LUKS2 header of the usual metadata size. It lies in the
 /// area of keyslot 0.
 const OLDER_SECOND: u64 = 16384;
 
-/// Where the area of keyslot 0 begins, in bytes.
+/// The start of the area of keyslot 0, in bytes.
 const AREA_START: u64 = 4096;
 
 /// Makes a LUKS1 volume whose keyslot 0 opens by the passphrase to a volume key of 64 bytes. What
@@ -111,8 +111,8 @@ pub fn format1<D: Device>(
     format1_as(alloc, device, &given, format, passphrase, false, random)
 }
 
-/// The same of a volume of which something is given: where its payload begins, its key, its uuid, its cipher with
-/// the key's length. Where nothing is it is `format1`. A cipher of older disks is taken only where `older` says so,
+/// Makes a volume for which something is given: where its payload begins, its key, its uuid, its cipher with
+/// the key's length. If nothing is it is `format1`. A cipher of older disks is taken only where `older` says so,
 /// and opens wherever these are accepted.
 ///
 /// The volume key is random or given; of the random bytes there are `format1_random`, also those in whose place a

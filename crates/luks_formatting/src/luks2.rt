@@ -111,7 +111,7 @@ pub fn format2<D: Device>(
     make(alloc, device, &volume)
 }
 
-/// The same with a keyslot that is derived as is chosen, and takes no more memory than the passphrase
+/// Makes a volume whose keyslot is derived as is chosen, and takes no more memory than the passphrase
 /// allows; where nothing is chosen it is `format2`. It opens wherever as much memory is allowed as it
 /// takes, whether older ciphers and hashes are accepted or not.
 ///
@@ -176,8 +176,8 @@ pub fn format2_by<D: Device>(
     format2_as(alloc, device, &given, format, chosen, passphrase, random)
 }
 
-/// The same of a volume of which something is given: where its payload begins, its key, its uuid, its label and
-/// its subsystem, its cipher with the key's length, the size of its sectors. Where nothing is it is `format2_by`.
+/// Makes a volume for which something is given: where its payload begins, its key, its uuid, its label and
+/// its subsystem, its cipher with the key's length, the size of its sectors. If nothing is it is `format2_by`.
 /// A cipher of older disks is taken only where the passphrase's allowance says so, and opens wherever these are
 /// accepted.
 ///

@@ -43,7 +43,7 @@ const WANTED: Wanted = Wanted {
     second: true,
 };
 
-/// Where the area of keyslot 0 begins, in bytes.
+/// The start of the area of keyslot 0, in bytes.
 const AREA_START: u64 = 32768;
 
 /// A volume that is to be made, and that none of the faults refuses.

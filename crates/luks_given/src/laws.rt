@@ -29,7 +29,7 @@ pub fn askings_end()
         → AreAskings parts total askings → length askings + parts_length parts ≤ total }
 {}
 
-/// The same of a call over two volumes, which wants a range of the one or of the other.
+/// A call over two volumes, which wants a range of the one or of the other, is answered in the end too.
 pub fn askings_of_two_end()
     ensures { (source : List ThePart) (n : ℕ) (parts : List ThePart) (total : ℕ) (askings : List (Asking ⊎ Asking))
         → AreRanges source n → AreRanges parts total → AreAskingsOfTwo source n parts total askings

@@ -116,7 +116,7 @@ impl<'a, K: Given> PlannedWrites<'a, K> {
         self.bytes.as_slice()
     }
 
-    /// The same, in the place of the device.
+    /// The bytes of the plan's writes, in place of the device.
     pub fn into_bytes(self) -> Vec<u8>
         ensures { result.items ≡ planned_written self.entry }
     {
@@ -305,7 +305,7 @@ fn copy_over(bytes: &mut [u8], at: usize, from: &[u8])
     bytes[at..at + from.len()].copy_from_slice(from);
 }
 
-/// Where among `len` bytes from the place `at` on the last sector begins that they have a byte of, or the
+/// The start, among `len` bytes from the place `at` on, of the last sector that they have a byte of, or the
 /// first of them.
 fn last_sector(at: u64, len: usize) -> usize
     requires { 0 < len }

@@ -5,7 +5,7 @@ use crate::layers::Sysfs;
 use crate::system::System;
 use std::alloc::{AllocError, Global};
 
-/// Where sysfs has a folder for each block device, MAJOR:MINOR.
+/// The folder in which sysfs has a folder for each block device, MAJOR:MINOR.
 pub const BLOCKS: &str = "/sys/dev/block";
 
 /// How many ranges are followed down at most, beneath one name.

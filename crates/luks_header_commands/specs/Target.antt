@@ -74,7 +74,7 @@ AnswersHeader {D} tells size bytes failed over says unread HasRandom (Ok volume)
 AnswersHeader {D} tells size bytes failed over says unread HasRandom (Err fault) volume_new old new a = a ≡ unread_answer fault
 AnswersHeader {D} tells size bytes failed over says unread HasRandom volume volume_new old new a = ⊥
 
--- Where the target has such a header or another use, that may not be written over, and both files are there and tell their bytes:
+-- If the target has such a header or another use, that may not be written over, and both files are there and tell their bytes:
 -- no byte of it changes, and that is what bars the command.
 abbrev pub HoldsBackHeader : {D : Type 0} → Type 0 → (D → List ℕ) → Bool → Result D InputFault → Result D InputFault → Result D InputFault → Answer → Type 0
 HoldsBackHeader tells bytes over (Ok volume) (Ok old) (Ok new) a = tells → HoldsBack over (IsOtherTarget (bytes volume) (bytes old)) (bytes old) (bytes new) a

@@ -31,7 +31,7 @@ use std::io::{Read, Write};
 /// Makes a detached header out of what is still whole in the volume of this name, at this place of it, on
 /// the target. The random bytes are read last, also where LUKS1 is meant, which takes none.
 ///
-/// Where neither version is meant LUKS2's metadata comes first. LUKS1 answers where none is whole and the
+/// If neither version is meant LUKS2's metadata comes first. LUKS1 answers where none is whole and the
 /// volume doesn't begin as a LUKS2 header, or where a LUKS1 header counts, accepted or not; but where the
 /// volume has no signs of one, LUKS2's answer stays.
 ///

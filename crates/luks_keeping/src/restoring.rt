@@ -91,7 +91,7 @@ pub fn restore<B: Device, T: Device>(
     restore_header(alloc, header, backup, target, payload, over)
 }
 
-/// The same of a backup whose header was read: it is the one that `accepted_header` answers for it, with the payload
+/// Restores a backup whose header was read: it is the one that `accepted_header` answers for it, with the payload
 /// elsewhere. The backup's metadata isn't read once more, and is given up before the target's is read.
 pub fn restore_header<B: Device, T: Device>(
     alloc: Global,

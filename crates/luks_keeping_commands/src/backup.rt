@@ -253,7 +253,7 @@ fn narrow_answer(fault: CheckFault) -> Answer
     Answer::from(BackupFault::NotAccepted(fault))
 }
 
-/// The same of a volume whose key areas can't be read everywhere: what can be read.
+/// Backs up a volume whose key areas can't be read everywhere: what can be read.
 fn back_up_readable<D: Device, E: Write>(
     alloc: Global,
     volume: &mut D,
@@ -325,7 +325,7 @@ fn without_file<D: Device, E: Write>(
     }
 }
 
-/// The same of a volume that `check` refuses by this fault.
+/// The answer for a volume that `check` refuses by this fault.
 fn without_file_refused<D: Device, E: Write>(
     alloc: Global,
     volume: &mut D,
@@ -354,7 +354,7 @@ fn without_file_refused<D: Device, E: Write>(
     }
 }
 
-/// The same of a volume whose metadata `check` refuses by this fault.
+/// The answer for a volume whose metadata `check` refuses by this fault.
 fn without_file_wide<D: Device, E: Write>(
     alloc: Global,
     volume: &mut D,

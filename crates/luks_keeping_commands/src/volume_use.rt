@@ -129,7 +129,7 @@ fn bar_of(fault: RestoreFault) -> Bar
     }
 }
 
-/// The same of a backup that was made while something was under way: refuses where the disk has another use and no header
+/// Judges a backup that was made while something was under way: refuses if the disk has another use and no header
 /// with the backup's uuid counts there, unless it may be written over.
 pub(crate) fn judge_use_underway<D: Device>(
     backup: &mut D,

@@ -202,7 +202,7 @@ fn tell_more<D: Device>(
     }
 }
 
-/// The same of a command that is done.
+/// Notes for a command that is done.
 fn tell_done<D: Device>(
     alloc: Global,
     line: &Line<'_>,
@@ -227,7 +227,7 @@ fn tell_done<D: Device>(
     }
 }
 
-/// The same of one that is refused, or by which none opens.
+/// Notes for a command that was refused, or if no keyslot opens.
 fn tell_refused<D: Device>(
     alloc: Global,
     line: &Line<'_>,
@@ -484,7 +484,7 @@ fn tell_leftovers<D: Device>(
     );
 }
 
-/// The same, or why it isn't looked for. Where no header counts it notes nothing.
+/// Notes this, or why it isn't looked for. If no header counts, it notes nothing.
 fn note_front<D: Device>(
     alloc: Global,
     device: &mut D,

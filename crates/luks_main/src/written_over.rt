@@ -44,7 +44,7 @@ impl<'a, R: Clock + Eprint> WrittenOver<'a, R> {
         Some(now.saturating_sub(self.begun?).as_millis())
     }
 
-    /// The same, where its line is to be written now.
+    /// The time since it began, if its line is to be written now.
     pub(crate) fn due(&self) -> Option<u128> {
         let elapsed = self.elapsed()?;
         if elapsed.saturating_sub(self.written) < PAUSE {

@@ -86,7 +86,7 @@ pub fn amendment_keeps_the_rest()
     ensures lost { (n : ℕ) (j : Data) → LosesToken n j (without_token n j) }
 {}
 
-/// Where no derivation is chosen, a keyslot that is sealed again derives as it did except for its salt and
+/// If no derivation is chosen, a keyslot that is sealed again derives as it did except for its salt and
 /// iterations, and one that is made with the members of another derives as that one.
 pub fn unchosen_derives_alike()
     ensures changed { (f : NewMembers) (hash : List ℕ) (k : Data) → f.derivation.chosen ≡ None

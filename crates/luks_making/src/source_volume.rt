@@ -48,7 +48,7 @@ pub struct SourceVolume<'a> {
     pub slots: [Option<SourceSlot>; 8],
 }
 
-/// Where the region of the key areas begins, behind two copies of 16384 bytes.
+/// The start of the region of the key areas, after two copies of 16384 bytes.
 const REGION_START: u64 = 32768;
 
 /// Where it ends at the latest, in bytes.
@@ -121,7 +121,7 @@ pub fn area_size(volume: &SourceVolume<'_>, slot: &SourceSlot) -> u64
     material.next_multiple_of(BLOCK)
 }
 
-/// Where the new area of the keyslot `number` begins, in bytes from the header's start: the areas
+/// The start of the new area of the keyslot `number`, in bytes from the header's start: the areas
 /// follow each other by the numbers of the enabled keyslots from 32768 on. For 8, where the last one
 /// ends.
 pub fn area_start(volume: &SourceVolume<'_>, number: usize) -> u64

@@ -112,7 +112,7 @@ fn second_of<D: Device, E: Write>(
     Ok(search.found)
 }
 
-/// What is found so of a header of this size, if there is anything. Where no copy of it stands nothing is hashed.
+/// What is found by a header of this size, if anything is. If there is no copy of it, nothing is hashed.
 fn size_of<D: Device, E: Write>(
     alloc: Global,
     device: &mut D,

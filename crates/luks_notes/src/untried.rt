@@ -19,7 +19,7 @@ pub fn note_untried<D: Device, E: Write>(alloc: Global, device: &mut D, which: W
     let _ = say_untried(alloc, device, which, err);
 }
 
-/// The same, until a fault ends it.
+/// Says it until a fault ends it.
 pub(crate) fn say_untried<D: Device, E: Write>(
     alloc: Global,
     device: &mut D,

@@ -69,7 +69,7 @@ pub fn search_fragments<D: Device, P: Progress>(
     Ok(None)
 }
 
-/// The same with the keyslot at the spot.
+/// Searches with the keyslot at the spot.
 fn by_keyslot<D: Device, P: Progress>(
     alloc: Global,
     source: &mut D,
@@ -106,7 +106,7 @@ fn by_keyslot<D: Device, P: Progress>(
     by_seen(alloc, source, &seen, spots, given, trying, tally, progress)
 }
 
-/// The same with this keyslot.
+/// Searches with this keyslot.
 fn by_seen<D: Device, P: Progress>(
     alloc: Global,
     source: &mut D,
@@ -143,7 +143,7 @@ fn by_seen<D: Device, P: Progress>(
     Ok(None)
 }
 
-/// The same with the digest at the spot, and the segment that was seen there, if none is given.
+/// Tries the digest at the spot, and the segment that was seen there, if none is given.
 fn by_digest<D: Device, P: Progress>(
     alloc: Global,
     source: &mut D,

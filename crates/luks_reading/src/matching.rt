@@ -296,7 +296,7 @@ fn is_met(digest: &DigestPlan<'_>, hash: KeyslotHash, key: &[u8]) -> bool
     is_met_in(&mut buffer[..digest.stored.len()], digest, hash, key)
 }
 
-/// The same, with room for what is to be compared.
+/// Whether the key meets the digest, with room for what is to be compared.
 fn is_met_in(room: &mut [u8], digest: &DigestPlan<'_>, hash: KeyslotHash, key: &[u8]) -> bool
     requires hash { hash_by_name digest.now.hash.now ≡ hash }
     requires iterations { 1 ≤ digest.now.iterations }

@@ -1,4 +1,4 @@
--- Where metadata of a LUKS2 header is still whole in a volume, whatever comes before it (LUKS2
+-- The places where metadata of a LUKS2 header is still whole in a volume, whatever comes before it (LUKS2
 -- On-Disk Format 1.1, 2.1 and 3).
 use Rattle.std.specs.Prelude.{◌≡◌, ◌≢◌, ◌⊎◌, ℕ, ◌+◌, ◌-◌, ◌≤◌, ◌==◌, List, [], ◌∷◌, Bool, codes, length, min, replicate, if◌then◌else◌, true, false, ⊤}
 use Rattle.luks_area.specs.First.{IsLeast, NotAfter}

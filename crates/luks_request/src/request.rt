@@ -327,7 +327,7 @@ pub struct Converting<'a> {
     pub target: &'a str,
     /// The file of the random bytes.
     pub random: &'a str,
-    /// Where the volume's payload lies.
+    /// The place of the volume's payload.
     pub payload: Data,
     /// Whether it may write over another volume's header, and over another use of the target.
     pub over: bool,

@@ -115,7 +115,7 @@ fn as_it_stands<D: Device, P: Progress>(
     Ok(None)
 }
 
-/// The same of the keyslot `n`.
+/// Tries the keyslot `n` unchanged.
 fn slot_as_it_stands<D: Device, P: Progress>(
     alloc: Global,
     source: &mut D,
@@ -183,7 +183,7 @@ fn by_fields<D: Device, P: Progress>(
     Ok(None)
 }
 
-/// The same of one field, for each keyslot.
+/// Turns the bits of one field, for each keyslot.
 fn by_field<D: Device, P: Progress>(
     alloc: Global,
     source: &mut D,

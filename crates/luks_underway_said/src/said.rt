@@ -113,7 +113,7 @@ impl fmt::Display for KeyWords {
     }
 }
 
-/// Where the part in hand lies.
+/// The place of the part in hand.
 #[derive(Clone, Copy)]
 struct PartWords(Option<Hotzone>);
 

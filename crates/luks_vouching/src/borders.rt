@@ -57,7 +57,7 @@ pub(crate) fn least_border(
     }
 }
 
-/// Whether the checksum is met by what the hasher was fed and these bytes. Where that isn't new it is no.
+/// Whether the checksum is met by what the hasher was fed and these bytes. If they aren't new, it isn't.
 fn is_met(is_new: bool, begun: &Sha256, bytes: &[u8], sum: &[u8]) -> bool
     ensures met { (done : List ℕ) → Holds256 begun.now done → result ≡ true
         → sum.now ≡ sha256 (done ++ bytes.now) }

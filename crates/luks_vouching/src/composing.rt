@@ -50,7 +50,7 @@ pub(crate) fn compose<P: SearchProgress>(
     compose_pieces(first, second, json, &again, sum, most, progress)
 }
 
-/// The same, of the compositions of sectors.
+/// Composes the two copies' sectors.
 fn compose_sectors<P: SearchProgress>(
     first: &[u8],
     second: &[u8],
@@ -87,7 +87,7 @@ fn may_try_all(first: &[u8], second: &[u8], most: usize) -> bool
     all_may(differing(first, second), first.len(), most)
 }
 
-/// The same, of the compositions by one border alone.
+/// Composes the two copies by one border alone.
 fn compose_by_border(
     first: &[u8],
     second: &[u8],

@@ -1,4 +1,4 @@
--- When the metadata of a JSON area is accepted by the wider reading, said of its value. Where nothing is under way that is said by `luks_rules` alone.
+-- When the metadata of a JSON area is accepted by the wider reading, said of its value. If nothing is under way that is said by `luks_rules` alone.
 use Rattle.std.specs.Prelude.{◌≡◌, ◌⊎◌, ℕ, ◌+◌, ◌*◌, ◌≤◌, List, codes, length, true, false, Some}
 use Rattle.serde_json.specs.Data.{Data, Items}
 use Rattle.serde_json.specs.Written.{has_float}
