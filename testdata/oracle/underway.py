@@ -422,8 +422,8 @@ GIVES = {"old": "the old key of the reencryption", "new": "the new key of the re
 
 
 def said_of_keys(volume, name, passphrase, first, memory=0, older=False, unread=()):
-    """What standard error says of a volume of which this keyslot opens: which key each gives that opens, and which none gives. The others are tried
-    that are where none is named; those of `unread` can't be read."""
+    """What standard error says of a volume of which this keyslot opens: which key each gives that opens, and which none gives. It tries the
+    other keyslots that are tried without --slot; those of `unread` can't be read."""
     value = under_way(volume)
     if value is None or not reencryptions(value):
         return []
