@@ -1,5 +1,5 @@
-/* The calls of libluks through a descriptor: the ranges of the volume are read that the proved calls ask for, and these are
- * given to them. Nothing here is proved. */
+/* The calls of libluks through a descriptor. They read the ranges of the volume that the proved calls ask for, and pass them on. Nothing here is
+ * proved. */
 #define _GNU_SOURCE
 #include "luks.h"
 
@@ -20,40 +20,41 @@
 #include <time.h>
 #include <unistd.h>
 
-/* How many bytes are read where a call asks first: the heads of both copies as cryptsetup lays them out, and with them two key areas. At each other place half
- * as many are read as at the one before, and behind what was read as many again, so that few calls are made and some 1 MiB is held that isn't needed. */
+/* How many bytes the first read takes: the heads of both copies as cryptsetup lays them out, or those and two key areas. A read at each other place
+ * takes half as many as the one before, and a read that goes on takes as many again. So few calls are made, and some 1 MiB is held that isn't
+ * needed. */
 #define HEADS ((uint64_t)1 << 16)
 #define WITH_KEY_AREAS ((uint64_t)544 << 10)
 #define LEAST_AHEAD ((uint64_t)1 << 12)
 #define MOST_AHEAD ((uint64_t)1 << 20)
 
-/* The most that one call of pread is asked for, before pages of zeros are given back. */
+/* The most that one call of pread reads, before pages of zeros are given back. */
 #define MOST_AT_ONCE ((uint64_t)1 << 18)
 
-/* What memory for the bytes grows by. */
+/* The step by which the memory for the bytes grows. */
 #define ROOM_STEP ((size_t)1 << 20)
 
-/* What a disk reads at once, or not. */
+/* The bytes that a disk reads together, or can't. */
 #define SECTOR ((uint64_t)512)
 
-/* Of how many of the first bytes those that were read are compared before the first write. */
+/* How many of the volume's first bytes are read again before the first write, and compared. */
 #define COMPARED ((uint64_t)1 << 15)
 
-/* Ranges of a volume that were read, in their order, with a gap between any two, and their bytes one after the other: these lie in pages of their own, of which
- * those that hold zeros alone take no memory. */
+/* Ranges of a volume that were read, in their order, with a gap between any two, and their bytes one after the other. The bytes have pages of their
+ * own. Pages that hold only zeros take no memory. */
 struct held {
     int fd;
-    uint64_t start, total, ahead, unread; /* the last is the place that couldn't be read, where one couldn't */
-    unsigned blanks;                      /* in so many stretches that can't be read other bytes may stand */
-    uint8_t blank;                        /* these: zeros in a search, which says where the first of them is; in ranges that are only written what is written over */
-    bool has_blanks;                      /* some do */
+    uint64_t start, total, ahead, unread; /* the last is the place that couldn't be read, if there is one */
+    unsigned blanks;                      /* how many more unreadable stretches may be replaced by other bytes */
+    uint8_t blank;                        /* such a byte: 0 in a search; BLANK in a range that will only be written */
+    bool has_blanks;                      /* whether some were */
     struct luks_range *ranges;
     size_t ranges_count;
     uint8_t *bytes;
     size_t bytes_count, room;
 };
 
-/* As the calls over bytes take them. */
+/* The arguments with which a _bytes call takes them. */
 #define GIVEN(held) (held)->ranges, (held)->ranges_count, (held)->bytes, (held)->bytes_count, (held)->total
 
 static uint64_t least(uint64_t a, uint64_t b)
@@ -61,7 +62,7 @@ static uint64_t least(uint64_t a, uint64_t b)
     return a < b ? a : b;
 }
 
-/* A struct of the caller's has at least these bytes, and no more than any version's will. */
+/* The most bytes that a struct of the caller's has in any version. */
 #define MOST_FIELDS 1024
 
 static bool is_size(uint64_t size, size_t least_size)
@@ -69,8 +70,8 @@ static bool is_size(uint64_t size, size_t least_size)
     return size >= least_size && size <= MOST_FIELDS;
 }
 
-/* Whether `count` bytes of this struct's `size` may be read, and those behind them are zeros: a caller that was compiled for a later version asks for
- * nothing that isn't known here. */
+/* Whether `count` bytes of a struct of this `size` may be read, and the bytes after them are zeros. If they aren't, a caller that was compiled for a
+ * later version asks for something that isn't known here. */
 static bool is_known(const void *given, uint64_t size, size_t count)
 {
     const uint8_t *bytes = given;
@@ -82,14 +83,14 @@ static bool is_known(const void *given, uint64_t size, size_t count)
     return true;
 }
 
-/* Writes zeros over the fields of such a struct, but its size. */
+/* Writes zeros over the fields of such a struct, except its size. */
 static void clear(void *told, uint64_t size)
 {
     memset((uint8_t *)told + sizeof size, 0, (size_t)size - sizeof size);
 }
 
-/* Whether the calls here mean by this descriptor what they say: pwrite puts bytes at the file's end where it appends, and direct calls want buffers
- * that aren't these. It is asked before anything is read. */
+/* Whether the calls work on this descriptor. If it appends, pwrite puts bytes at the file's end; direct I/O needs aligned buffers, which these
+ * aren't. This is checked before anything is read. */
 static uint32_t judge(int fd, bool is_written)
 {
     int flags = fcntl(fd, F_GETFL);
@@ -118,7 +119,7 @@ static int length_of(int fd, uint64_t *total)
     return -1;
 }
 
-/* Reads so many bytes from the place on. A short read is gone on with; the file's end is a failure. */
+/* Reads `count` bytes at the place `at`. It goes on after a short read. The file's end is a failure. */
 static int read_all(int fd, uint8_t *into, size_t count, uint64_t at)
 {
     while (count > 0) {
@@ -137,7 +138,7 @@ static int read_all(int fd, uint8_t *into, size_t count, uint64_t at)
     return 0;
 }
 
-/* Makes room for so many bytes. */
+/* Makes room for `count` bytes. */
 static bool make_room(struct held *held, size_t count)
 {
     size_t room = (count / ROOM_STEP + 1) * ROOM_STEP;
@@ -157,7 +158,7 @@ static bool are_zeros(const uint8_t *bytes, size_t count)
     return bytes[0] == 0 && memcmp(bytes, bytes + 1, count - 1) == 0;
 }
 
-/* Gives back the pages from that of this address to before that one that hold zeros alone: what is read of such a page then are zeros too. */
+/* Gives back the pages between these addresses that hold only zeros. They still read as zeros. */
 static void give_zeros_back(uint8_t *from, const uint8_t *to)
 {
     size_t page = (size_t)sysconf(_SC_PAGESIZE), blank = 0;
@@ -172,8 +173,8 @@ static void give_zeros_back(uint8_t *from, const uint8_t *to)
         (void)madvise(at - blank, blank, MADV_DONTNEED);
 }
 
-/* Reads as many bytes from the place on as can be read, and answers how many these are: all up to the first sector that can't. What fails is tried
- * again by smaller pieces, none of which lies in two sectors at last. The file's end is a failure. */
+/* Reads up to `count` bytes at the place `at`, and answers how many could be read: all before the first unreadable sector. If a read fails, it tries
+ * smaller pieces, at last pieces within one sector. The file's end is a failure. */
 static size_t read_some(int fd, uint8_t *into, size_t count, uint64_t at)
 {
     uint64_t piece = MOST_AT_ONCE;
@@ -198,7 +199,7 @@ static size_t read_some(int fd, uint8_t *into, size_t count, uint64_t at)
     return done;
 }
 
-/* Adds a range before the one numbered `i`, for which there is room: to its neighbours, where it touches them. */
+/* Adds a range before the one numbered `i`, or joins it to the neighbours that it touches. There is room for it. */
 static void add_range(struct held *held, size_t i, uint64_t at, uint64_t len)
 {
     struct luks_range *ranges = held->ranges;
@@ -217,8 +218,8 @@ static void add_range(struct held *held, size_t i, uint64_t at, uint64_t len)
     }
 }
 
-/* Reads from the place on, which lies in the gap before the range numbered `i`, where `before` bytes are those of the ranges before it: at least to
- * `needed`, else that is a failure, and at most to `most`, as far as can be read. */
+/* Reads from `place` on, as far as it can: at most to `most`, and at least to `needed`, else it fails. `place` is in the gap before the range
+ * numbered `i`; the ranges before it have `before` bytes. */
 static uint32_t read_gap(struct held *held, size_t i, size_t before, uint64_t place, uint64_t needed, uint64_t most)
 {
     if (most - place > (uint64_t)PTRDIFF_MAX - held->bytes_count)
@@ -254,7 +255,7 @@ static uint32_t read_gap(struct held *held, size_t i, size_t before, uint64_t pl
     return LUKS_DEVICE;
 }
 
-/* The number of the first range that ends behind the place, and how many bytes those before it have. */
+/* The number of the first range that ends after the place, and how many bytes the ranges before it have. */
 static size_t range_behind(const struct held *held, uint64_t place, size_t *before)
 {
     size_t i = 0;
@@ -264,7 +265,7 @@ static size_t range_behind(const struct held *held, uint64_t place, size_t *befo
     return i;
 }
 
-/* Up to where is read at the place, before which so many ranges are held: as far again as what ends there, or else half as far as the time before. */
+/* Where a read at `place` ends; `i` ranges are before it. If a range ends there, the read is as long again, else half as long as the last one. */
 static uint64_t reading_end(struct held *held, uint64_t place, size_t i)
 {
     uint64_t ahead = held->ahead;
@@ -275,7 +276,7 @@ static uint64_t reading_end(struct held *held, uint64_t place, size_t i)
     return place + least(ahead, held->total - place);
 }
 
-/* Holds the range too that a call asked for; LUKS_BEYOND where it may be made again. */
+/* Reads the range that a call asked for, too. It answers LUKS_BEYOND if the call may be made again. */
 static uint32_t hold_more(struct held *held, struct luks_range wanted)
 {
     uint64_t needed = wanted.at + wanted.len, place = wanted.at;
@@ -297,7 +298,7 @@ static uint32_t hold_more(struct held *held, struct luks_range wanted)
     return LUKS_BEYOND;
 }
 
-/* The bytes of such a range, or NULL where they aren't held. */
+/* The bytes of this range, or NULL if they aren't held. */
 static const uint8_t *held_at(const struct held *held, uint64_t at, uint64_t len)
 {
     size_t before, i = range_behind(held, at, &before);
@@ -306,7 +307,7 @@ static const uint8_t *held_at(const struct held *held, uint64_t at, uint64_t len
     return held->bytes + before + (size_t)(at - held->ranges[i].at);
 }
 
-/* The window of the descriptor, of which nothing is held. */
+/* Sets up the window of the descriptor, of which nothing is held yet. */
 static uint32_t begin(struct held *held, int fd, uint64_t offset, uint64_t length, uint64_t ahead)
 {
     uint64_t total = 0;
@@ -334,14 +335,14 @@ static void end(struct held *held)
     errno = kept;
 }
 
-/* Whole pages that are kept out of swap and of core dumps for as long as a call takes; none where `count` is 0. */
+/* Whole pages that are kept out of swap and of core dumps during a call; none if `count` is 0. */
 struct guarded {
     void *pages;
     size_t count;
 };
 
-/* Guards the pages in which so many bytes lie from this address on. Where the system refuses it, as beyond RLIMIT_MEMLOCK, the call goes on without.
- * Pages that are locked already are the caller's to keep so: msync tells by EBUSY, and they are left as they are. */
+/* Guards the pages of `count` bytes at this address. If the system refuses it, for example beyond RLIMIT_MEMLOCK, the call goes on without. Pages
+ * that the caller has locked are left as they are; msync tells them by EBUSY. */
 static struct guarded guard(uintptr_t at, size_t count)
 {
     struct guarded none = {NULL, 0}, found;
@@ -360,7 +361,7 @@ static struct guarded guard(uintptr_t at, size_t count)
     return found;
 }
 
-/* Undoes it. */
+/* Undoes guard. */
 static void unguard(const struct guarded *guarded)
 {
     int kept = errno;
@@ -453,9 +454,9 @@ uint32_t luks_token(int fd, uint64_t offset, uint64_t length, uint32_t number, c
     return answer;
 }
 
-/* ---- what the header says as records, of the object of luks_read ---- */
+/* ---- what the header says as records, taken from the object of luks_read ---- */
 
-/* What is left of the object's text, which this library wrote: no space stands between its parts. */
+/* The rest of the object's text. This library wrote it, so there are no spaces between its parts. */
 struct text {
     const char *at, *end;
 };
@@ -472,7 +473,7 @@ static bool take(struct text *text, char sign)
     return is_there;
 }
 
-/* A text in quotation marks, as it stands between them. */
+/* Takes a text in quotation marks, as it is spelt between them. */
 static bool take_string(struct text *text, struct text *string)
 {
     if (!take(text, '"'))
@@ -493,7 +494,7 @@ static bool take_number(struct text *text, uint64_t *number)
     return text->at > from;
 }
 
-/* An array of numbers, each as a bit. */
+/* Takes an array of numbers, each as a bit. */
 static bool take_set(struct text *text, uint64_t *bits)
 {
     uint64_t number;
@@ -509,7 +510,7 @@ static bool take_set(struct text *text, uint64_t *bits)
     return true;
 }
 
-/* Whatever value stands there. */
+/* Skips the next value, of any kind. */
 static bool skip_value(struct text *text)
 {
     struct text string;
@@ -538,15 +539,15 @@ static bool is_named(const struct text *name, const char *as)
     return (size_t)(name->end - name->at) == strlen(as) && memcmp(name->at, as, strlen(as)) == 0;
 }
 
-/* The next member of the object that begins or goes on there, behind its name; false at the object's end. */
+/* Takes the name of the next member of an object, up to its value; false at the object's end. */
 static bool next_member(struct text *text, struct text *name)
 {
     (void)(take(text, '{') || take(text, ','));
     return !take(text, '}') && take_string(text, name) && take(text, ':');
 }
 
-/* A member of an object, or of one within it, as a field of a record: a number, which is the greatest where a text stands there; a text, as much as fits; a
- * text out of a list, by its place in that; an array of numbers, each as a bit. */
+/* A member of an object, or of an object `within` it, and the field of a record that it fills. NUMBER: a number; if the member is a text, the
+ * greatest one. TEXT: a text, as much as fits. WORD: a text's place in a list. SET: an array of numbers, each as a bit. */
 enum how { NUMBER, TEXT, WORD, SET };
 struct field {
     const char *within, *name;
@@ -604,7 +605,7 @@ static const struct field OF_TOKEN[] = {
     {0},
 };
 
-/* What the object itself says of a LUKS1 header, beside its keyslots. */
+/* What the object says of a LUKS1 header itself, without its keyslots. */
 struct luks1 {
     uint32_t version, iterations;
     uint64_t payload;
@@ -637,7 +638,7 @@ static void put_string(const struct field *field, uint8_t *record, const struct 
             put_number(field, record, i);
 }
 
-/* Keeps the value that stands there. */
+/* Puts the next value into its field. */
 static bool keep_value(struct text *text, const struct field *field, uint8_t *record)
 {
     struct text string;
@@ -655,7 +656,7 @@ static bool keep_value(struct text *text, const struct field *field, uint8_t *re
     return skip_value(text);
 }
 
-/* Keeps what the object says, and the objects within it, but for arrays of objects. */
+/* Puts the members of the object into their fields, and those of the objects within it, except arrays of objects. */
 static bool keep_object(struct text *text, const char *within, const struct field *fields, uint8_t *record)
 {
     static const char *const parts[] = {"area", "digest", "kdf", "splitter"};
@@ -675,7 +676,7 @@ static bool keep_object(struct text *text, const char *within, const struct fiel
     return true;
 }
 
-/* Records of one kind: the array's name, their size, and what stands in one of which nothing is said. */
+/* Records of one kind: the array's name, the fields, a record's size, and what a record has before it is filled. */
 struct shape {
     const char *array;
     const struct field *fields;
@@ -693,7 +694,7 @@ static const struct shape TOKENS = {"tokens", OF_TOKEN, sizeof NO_TOKEN, &NO_TOK
 
 _Static_assert(sizeof(struct luks_keyslot) <= 256, "the largest of these");
 
-/* The records of an array of objects: how many, and those for which there is room. */
+/* Takes an array of objects as records, as many as there is room for, and answers how many there are. */
 static size_t keep_array(struct text *text, const struct shape *shape, uint8_t *records, size_t room)
 {
     uint8_t nowhere[256];
@@ -707,7 +708,7 @@ static size_t keep_array(struct text *text, const struct shape *shape, uint8_t *
     return count;
 }
 
-/* The records of the whole object; none where it has no such array. */
+/* Takes the records of the whole object; none if it has no such array. */
 static size_t keep_records(struct text text, const struct shape *shape, void *records, size_t room)
 {
     struct text name;
@@ -720,14 +721,14 @@ static size_t keep_records(struct text text, const struct shape *shape, void *re
     return 0;
 }
 
-/* The one segment of a LUKS1 volume. */
+/* The only segment of a LUKS1 volume. */
 static void segment_of_luks1(const struct luks1 *told, struct luks_segment *segment)
 {
     *segment = (struct luks_segment){.kind = LUKS_CRYPT, .sector_bytes = 512, .offset = told->payload, .bytes = LUKS_TO_END};
     snprintf(segment->cipher, sizeof segment->cipher, "%.31s-%.31s", told->cipher_name, told->cipher_mode);
 }
 
-/* Its one digest, which is that of all keyslots in use. */
+/* The only digest of a LUKS1 volume, for all keyslots in use. */
 static void digest_of_luks1(const struct luks1 *told, struct text text, struct luks_digest *digest)
 {
     struct luks_keyslot keyslots[LUKS_KEYSLOTS];
@@ -738,7 +739,7 @@ static void digest_of_luks1(const struct luks1 *told, struct text text, struct l
         digest->keyslots |= keyslots[i].is_enabled ? (uint32_t)1 << keyslots[i].number : 0;
 }
 
-/* The records of the object, and of a LUKS1 header those that its members stand for. */
+/* The records of the object. For a LUKS1 header, its members give the segment and the digest. */
 static size_t records_of(struct text text, const struct shape *shape, void *records, size_t room)
 {
     struct luks1 told = {0};
@@ -800,11 +801,11 @@ uint32_t luks_tokens(int fd, uint64_t offset, uint64_t length, struct luks_token
 
 /* ---- secrets ---- */
 
-/* More than the calls over bytes take of the stack. */
+/* More than a _bytes call uses of the stack. */
 #define STACK ((size_t)192 << 10)
 
 #ifdef __x86_64__
-/* The registers that copying leaves bytes in: the first call by a name that the loader hasn't looked up yet would put them onto the stack. */
+/* Clears registers in which copying leaves bytes. The first call of a function that the loader hasn't looked up yet would save them on the stack. */
 static __attribute__((target("avx512f"))) void wipe_upper_registers(void)
 {
     __asm__ volatile("vpxorq %%zmm16, %%zmm16, %%zmm16; vpxorq %%zmm17, %%zmm17, %%zmm17; vpxorq %%zmm18, %%zmm18, %%zmm18;"
@@ -841,21 +842,21 @@ static void wipe_registers(void)
 }
 #endif
 
-/* Writes zeros over so much of the stack below its caller. */
+/* Writes zeros over STACK bytes of the stack below its caller. */
 static __attribute__((noinline)) void wipe_stack(void)
 {
     uint8_t room[STACK];
     explicit_bzero(room, sizeof room);
 }
 
-/* Takes away what the calls that its caller made have left of what they derived: in registers first, since calling more puts these onto the stack. */
+/* Removes what earlier calls left of derived keys. It begins with the registers, since another call would save them on the stack. */
 static __attribute__((noinline)) void forget(void)
 {
     wipe_registers();
     wipe_stack();
 }
 
-/* Gives memory back, once zeros stand in it. */
+/* Writes zeros over memory and frees it. */
 static void give_wiped(void *memory, size_t count)
 {
     int kept = errno;
@@ -867,10 +868,10 @@ static void give_wiped(void *memory, size_t count)
 
 /* ---- opening ---- */
 
-/* What is asked of a passphrase: the keyslot `n`, or of any where it is ANY. */
+/* In place of a keyslot's number: any keyslot. */
 #define ANY UINT32_MAX
 
-/* No volume has a keyslot of this number: it stands for those that don't fit into 8 bits. */
+/* The number in 8 bits. If it doesn't fit, it is UINT8_MAX, which no keyslot has. */
 static uint8_t keyslot_of(uint32_t n)
 {
     return n < UINT8_MAX ? (uint8_t)n : UINT8_MAX;
@@ -907,8 +908,8 @@ static uint32_t open_one(int fd, uint64_t offset, uint64_t length, uint32_t n, c
     return answer;
 }
 
-/* The same of any keyslot where one couldn't be read: they are tried one by one in their order, and those that can't be read, or to which memory is
- * refused, are passed over, as `luks open` does. */
+/* Tries the keyslots one by one, after one couldn't be read. It passes over those that can't be read, or for which memory was refused, as `luks open`
+ * does. */
 static uint32_t open_beside(int fd, uint64_t offset, uint64_t length, const void *passphrase, size_t passphrase_bytes, uint32_t memory,
                             uint32_t older, void *key, size_t key_room, struct luks_opened *opened)
 {
@@ -964,7 +965,7 @@ uint32_t luks_meets(int fd, uint64_t offset, uint64_t length, const void *key, s
     return answer;
 }
 
-/* Whether the caller's function says to go on; it does where there is none. */
+/* Whether the caller's function says to go on, or there is none. */
 static bool goes_on(luks_progress *progress, void *context, uint64_t done, uint64_t total)
 {
     return progress == NULL || progress(context, done, total) == 0;
@@ -976,7 +977,7 @@ uint32_t luks_try(int fd, uint64_t offset, uint64_t length, const void *passphra
     struct luks_opened opened = {.size = sizeof opened};
     if (answers == NULL)
         return LUKS_USAGE;
-    /* a number that no keyslot has: the faults of the header itself */
+    /* no keyslot has this number, so this tells the faults of the header itself */
     uint32_t answer = open_one(fd, offset, length, UINT8_MAX, passphrase, passphrase_bytes, 0, 0, NULL, 0, &opened);
     if (answer != LUKS_FAULT_NO_SUCH_SLOT)
         return answer;
@@ -990,7 +991,7 @@ uint32_t luks_try(int fd, uint64_t offset, uint64_t length, const void *passphra
 
 /* ---- calls that write ---- */
 
-/* The room for a plan at first: more than any edit of a volume as cryptsetup makes it takes. What isn't touched costs nothing. */
+/* The first room for a plan: more than an edit takes of any volume that cryptsetup makes. Untouched memory costs nothing. */
 #define CALLS_ROOM ((size_t)1 << 16)
 #define BYTES_ROOM ((size_t)1 << 25)
 
@@ -1000,7 +1001,7 @@ struct room {
     size_t calls_room, bytes_room;
 };
 
-/* What is asked of a volume that is written. */
+/* What a call that writes does. */
 enum kind { EDIT, FORMAT1, FORMAT2, CONVERT, REBUILD1, REBUILD2, BACKUP, RESTORE };
 
 struct asked {
@@ -1040,7 +1041,7 @@ static void give_room(struct room *room)
     errno = kept;
 }
 
-/* Writes so many bytes from the place on. A short write is gone on with. */
+/* Writes `count` bytes at the place `at`. It goes on after a short write. */
 static int write_all(int fd, const uint8_t *from, size_t count, uint64_t at)
 {
     while (count > 0) {
@@ -1068,7 +1069,7 @@ static int flush(int fd)
     return answer;
 }
 
-/* Asks that what was written before stays, of a descriptor by which a call can write. */
+/* Settles what was written before, if the call can write by this descriptor. */
 static uint32_t settle(int fd)
 {
     uint32_t answer = judge(fd, true);
@@ -1077,7 +1078,7 @@ static uint32_t settle(int fd)
     return answer;
 }
 
-/* Whether these bytes stand there still. Where others stand for those that can't be read, sectors of these are passed over that still can't. */
+/* Whether the volume still has these bytes. If other bytes replaced unreadable ones, it passes over sectors that still can't be read. */
 static int is_range_as_read(const struct held *held, uint64_t at, const uint8_t *bytes, uint64_t count)
 {
     uint8_t again[4096];
@@ -1101,7 +1102,7 @@ static int is_range_as_read(const struct held *held, uint64_t at, const uint8_t 
     return 0;
 }
 
-/* Whether what was read of the volume's beginning stands there still; a program without a lock may have written. */
+/* Whether the volume's beginning is still as it was read. A program without a lock may have written there. */
 static int is_as_read(const struct held *held)
 {
     const uint8_t *bytes = held->bytes;
@@ -1114,7 +1115,7 @@ static int is_as_read(const struct held *held)
     return 0;
 }
 
-/* Plays the plan, call by call; after a failure nothing more is written. */
+/* Carries out the plan, call by call. After a failure nothing more is written. */
 static uint32_t play(const struct held *held, const struct room *room, const struct luks_plan *plan)
 {
     const uint8_t *next = room->bytes;
@@ -1129,7 +1130,7 @@ static uint32_t play(const struct held *held, const struct room *room, const str
     return LUKS_DONE;
 }
 
-/* A text's bytes, and how many: none where it isn't given. */
+/* A text's bytes, and how many it has: none if it isn't given. */
 static const uint8_t *bytes_of(const void *text)
 {
     static const uint8_t nothing = 0;
@@ -1141,7 +1142,7 @@ static size_t count_of(const char *text)
     return text != NULL ? strlen(text) : 0;
 }
 
-/* Plans the header that is made of the source, or copied from it. */
+/* Plans a header that is made from the source, or copied from it. */
 static uint32_t plan_of_source(const struct held *held, const struct asked *it, struct room *room, struct luks_plan *plan)
 {
     const struct held *source = it->source;
@@ -1165,13 +1166,13 @@ static uint32_t plan_of_source(const struct held *held, const struct asked *it, 
                                room->calls, room->calls_room, room->bytes, room->bytes_room, plan);
 }
 
-/* What is given of a volume that is made, as the calls over bytes take it. */
+/* The arguments with which a _bytes call takes what is given for a new volume. */
 #define LAYOUT(it) \
     (it)->given.sector, (it)->given.key != NULL, bytes_of((it)->given.key), (size_t)(it)->given.key_bytes, bytes_of((it)->given.uuid), \
         count_of((it)->given.uuid), bytes_of((it)->given.label), count_of((it)->given.label), bytes_of((it)->given.subsystem), \
         count_of((it)->given.subsystem), &(it)->encryption
 
-/* Plans what is asked over the bytes that are held. */
+/* Plans what the call does, from the bytes that are held. */
 static uint32_t plan_of(const struct held *held, const struct asked *it, struct room *room, struct luks_plan *plan)
 {
     if (it->kind == FORMAT1)
@@ -1187,11 +1188,11 @@ static uint32_t plan_of(const struct held *held, const struct asked *it, struct 
                             it->subsystem, it->subsystem_bytes, it->random, it->random_bytes, room->calls, room->calls_room, room->bytes, room->bytes_room, plan);
 }
 
-/* What stands for a byte that can't be read and is only written: not 0, since zeros over zeros aren't planned. */
+/* Replaces a byte that can't be read and will only be written. It isn't 0, since no plan writes zeros over zeros. */
 #define BLANK 0xFF
 
-/* Holds the range of the volume too that the plan asked for. What is only to be written may be of sectors that can't be read: the plan writes over each of
- * these bytes, and none of them is read before, so that others may stand there. */
+/* Reads the range of the volume that the plan asked for, too. If it will only be written, its sectors may be unreadable: the plan writes over each of
+ * these bytes, and none is read before that, so other bytes may replace them. */
 static uint32_t hold_to_write(struct held *held, const struct luks_plan *plan)
 {
     held->blank = BLANK;
@@ -1201,7 +1202,7 @@ static uint32_t hold_to_write(struct held *held, const struct luks_plan *plan)
     return answer;
 }
 
-/* Plans it, with as many ranges held and as much room as it takes, and plays the plan. */
+/* Makes the plan, with as many ranges and as much room as it takes, and carries it out. */
 static uint32_t carry_out(struct held *held, const struct asked *it, uint32_t *slot)
 {
     struct room room = {0};
@@ -1223,7 +1224,7 @@ static uint32_t carry_out(struct held *held, const struct asked *it, uint32_t *s
     return answer;
 }
 
-/* Bytes of the system that nobody can guess. */
+/* Takes bytes from the system that nobody can guess. */
 static int take_random(uint8_t *into, size_t count)
 {
     while (count > 0) {
@@ -1238,7 +1239,7 @@ static int take_random(uint8_t *into, size_t count)
     return 0;
 }
 
-/* The same with random bytes of the system, where none are given. */
+/* Calls carry_out, with `count` random bytes from the system if none are given. */
 static uint32_t carry_out_by_chance(struct held *held, struct asked *it, uint64_t count, uint32_t *slot)
 {
     if (it->random != NULL)
@@ -1258,7 +1259,7 @@ static uint32_t carry_out_by_chance(struct held *held, struct asked *it, uint64_
     return answer;
 }
 
-/* The pages of what is asked that may hold passphrases and keys. */
+/* The pages of the arguments that may hold passphrases and keys. */
 struct secrets {
     struct guarded passphrase, text, random, key;
 };
@@ -1304,7 +1305,7 @@ static const uint8_t *given(const void *bytes)
     return bytes != NULL ? bytes : &nothing;
 }
 
-/* What is chosen, or that nothing is. */
+/* The derivation that is chosen, or none; false if it can't be. */
 static bool choice_of(const struct luks_derivation *derivation, struct luks_derivation_bytes *chosen)
 {
     memset(chosen, 0, sizeof *chosen);
@@ -1316,7 +1317,7 @@ static bool choice_of(const struct luks_derivation *derivation, struct luks_deri
     return true;
 }
 
-/* The edit's numbers and its subsystem, as the calls over bytes take them. */
+/* The edit's numbers and its subsystem, in the form for a _bytes call; false if they can't be. */
 static bool edit_of(const struct luks_edit *edit, struct asked *it)
 {
     if (edit == NULL || !is_known(edit, edit->size, sizeof *edit) || edit->subsystem_bytes > SIZE_MAX ||
@@ -1370,7 +1371,7 @@ uint32_t luks_apply(int fd, uint64_t offset, uint64_t length, bool is_detached, 
     return answer;
 }
 
-/* The keyslot that the passphrase opens, where any will do; of a descriptor by which a call can write. */
+/* Replaces LUKS_NO_SLOT by the keyslot that the passphrase opens, if the call can write by this descriptor. */
 static uint32_t any_keyslot(int fd, uint64_t offset, uint64_t length, const void *passphrase, size_t passphrase_bytes, uint32_t memory, uint32_t older,
                             uint32_t *slot)
 {
@@ -1468,7 +1469,7 @@ uint32_t luks_token_remove(int fd, uint64_t offset, uint64_t length, bool is_det
     return luks_apply(fd, offset, length, is_detached, &edit, NULL, 0, NULL, 0, NULL, 0, NULL);
 }
 
-/* What is given of a volume that is made, or that nothing is. */
+/* What is given for a new volume, or nothing; false if it can't be. */
 static bool layout_of(const struct luks_given *given, struct luks_given *layout)
 {
     *layout = (struct luks_given){.size = sizeof *layout, .sector = LUKS_NO_SECTOR};
@@ -1480,11 +1481,11 @@ static bool layout_of(const struct luks_given *given, struct luks_given *layout)
     return true;
 }
 
-/* The longest volume key of a volume that is made, in bytes, and how many random bytes each of these takes. */
+/* The longest volume key of a new volume, in bytes, and how many random bytes each of its bytes takes. */
 #define MOST_KEY_BYTES 64
 #define RANDOM_BYTES 4000
 
-/* By what it is encrypted, as the calls over bytes take it; what isn't given is as the program has it. */
+/* How it is encrypted, in the form for a _bytes call. What isn't given gets the program's default. */
 static struct luks_encryption_bytes encryption_of(const struct luks_given *given)
 {
     struct luks_encryption_bytes found = {.cipher = given->cipher, .key_bytes = (uint32_t)least(given->key_bytes, UINT32_MAX),
@@ -1498,7 +1499,7 @@ static struct luks_encryption_bytes encryption_of(const struct luks_given *given
     return found;
 }
 
-/* Makes a volume, which takes so many random bytes beside those of each byte of its key. */
+/* Makes a volume. It takes `count` random bytes, and more for each byte of its key. */
 static uint32_t format(int fd, uint64_t offset, uint64_t length, const struct luks_given *layout, struct asked *it, uint64_t count)
 {
     struct held held;
@@ -1542,15 +1543,15 @@ uint32_t luks_format2(int fd, uint64_t offset, uint64_t length, bool is_detached
 
 /* ---- costs by time ---- */
 
-/* By how much longer a derivation has to take than the least one, so that the clock says how long its turns take: 0.25 s. */
+/* How much longer than the least derivation one has to take, so that the clock tells the time of its turns: 0.25 s. */
 #define SAMPLE 250000000.0
 
-/* The least costs of a keyslot's derivation that the program chooses. */
+/* The least costs of a derivation that the program chooses. */
 #define LEAST_TURNS 1000
 #define LEAST_PASSES 4
 #define LEAST_KIB ((uint32_t)64 << 10)
 
-/* How many nanoseconds it takes to make a volume in memory whose keyslot derives so; less than none where that can't be. */
+/* How many nanoseconds it takes to make a volume in memory whose keyslot has this derivation. */
 static double time_of(int fd, uint32_t hash, const struct luks_derivation *derivation, uint32_t *answer)
 {
     struct timespec begun, ended;
@@ -1565,7 +1566,7 @@ static uint32_t within(double number, uint32_t low, uint32_t high)
     return number <= low ? low : number >= high ? high : (uint32_t)number;
 }
 
-/* The turns of PBKDF2 that take so many nanoseconds: more and more are timed until they take long enough. */
+/* Finds how many turns of PBKDF2 take `wanted` nanoseconds. It times more and more turns until they take long enough. */
 static uint32_t turns_of(int fd, uint32_t hash, double wanted, struct luks_derivation *derivation)
 {
     uint32_t answer;
@@ -1580,7 +1581,7 @@ static uint32_t turns_of(int fd, uint32_t hash, double wanted, struct luks_deriv
     return answer;
 }
 
-/* The passes of Argon2 that do, over as much memory as it may take; or less memory, where the least passes take longer. */
+/* Finds how many passes of Argon2 take `wanted` nanoseconds, over as much memory as it may take, or over less if the least passes take longer. */
 static uint32_t passes_of(int fd, uint32_t hash, double wanted, struct luks_derivation *derivation)
 {
     uint32_t answer, most = derivation->memory, sampled = most < LEAST_KIB ? most : LEAST_KIB;
@@ -1619,12 +1620,12 @@ uint32_t luks_costs(uint32_t kind, uint32_t hash, uint32_t milliseconds, uint32_
     return answer;
 }
 
-/* ---- a header that is made of a source ---- */
+/* ---- a header that is made from a source ---- */
 
 /* The bytes of a LUKS1 header. */
 #define HEADER1 592
 
-/* Whether both descriptors are of one file, or of one block device; -1 where that can't be told. */
+/* Whether both descriptors are of one file, or of one block device; -1 if that can't be found out. */
 static int are_one(int first, int second)
 {
     struct stat one, other;
@@ -1635,7 +1636,7 @@ static int are_one(int first, int second)
     return one.st_dev == other.st_dev && one.st_ino == other.st_ino;
 }
 
-/* Begins with the source and with the target, which is settled before. */
+/* Settles the target, and sets up both windows. */
 static uint32_t begin_both(struct held *source, int source_fd, uint64_t source_offset, uint64_t source_length, struct held *held, int fd,
                            uint64_t offset, uint64_t length)
 {
@@ -1644,7 +1645,7 @@ static uint32_t begin_both(struct held *source, int source_fd, uint64_t source_o
     int is_one = are_one(source_fd, fd);
     if (is_one != 0)
         return is_one > 0 ? (uint32_t)LUKS_FAULT_SAME_FILE : (uint32_t)LUKS_DEVICE;
-    /* no keyslot is opened, so that asking once more costs little */
+    /* no keyslot is opened, so calling once more costs little */
     uint32_t answer = settle(fd);
     if (answer == LUKS_DONE)
         answer = begin(source, source_fd, source_offset, source_length, HEADS);
@@ -1702,8 +1703,8 @@ uint32_t luks_rebuild1(int source_fd, uint64_t source_offset, uint64_t source_le
     return answer;
 }
 
-/* Whether a fault of LUKS2 leads to LUKS1, by the source's first bytes: no metadata is whole and they aren't those of a LUKS2
- * header; or a LUKS1 header stands there, accepted or not. */
+/* Whether a fault of LUKS2 leads to LUKS1, by the source's first bytes: no metadata is whole, and they don't begin a LUKS2 header; or they begin a
+ * LUKS1 header, accepted or not. */
 static bool leads_to_luks1(const struct held *source, uint32_t fault)
 {
     static const uint8_t magic[] = {'L', 'U', 'K', 'S', 0xBA, 0xBE};
@@ -1806,16 +1807,16 @@ uint32_t luks_compare(int backup_fd, uint64_t backup_offset, uint64_t backup_len
 
 /* ---- volumes on a disk ---- */
 
-/* A disk is searched by blocks, small ones first. What tells of a volume ends 8 MiB behind its start: two copies of 4 MiB.
- * What says that its second copy is the first one of another volume ends 4 MiB further, and what says that its first is the
- * second one of another begins 4 MiB before it. So a block tells all volumes that begin in it, but for its first 4 MiB, which
- * the block before it told of, and its last 12, which the next block tells of. */
+/* A disk is searched by blocks, small ones first. A volume is found by the 8 MiB from its start on: two copies of 4 MiB. Its second copy may be the
+ * first one of another volume, which the next 4 MiB show. Its first copy may be the second one of another volume, which the 4 MiB before it show. So
+ * a block finds all volumes that begin in it, except in its first 4 MiB, which belong to the block before, and in its last 12 MiB, which belong to
+ * the next block. */
 #define LEAST_BLOCK ((uint64_t)1 << 25)
 #define MOST_BLOCK ((uint64_t)1 << 26)
 #define EXPLAINS ((uint64_t)4 << 20)
 #define TELLS ((uint64_t)12 << 20)
 
-/* The least start in the block that is held, at `from` or behind it and before this end; LUKS_TO_END where there is none. */
+/* Finds the first start in the block that is held, from `from` on and before the end `before`; LUKS_TO_END if there is none. */
 static uint32_t find_in(struct held *held, uint64_t from, uint64_t before, uint64_t *place)
 {
     struct luks_found found = {.count = 64};
@@ -1846,8 +1847,8 @@ uint32_t luks_find(int fd, uint64_t offset, uint64_t length, uint64_t from, uint
     return luks_find_watched(fd, offset, length, from, NULL, NULL, place);
 }
 
-/* Searches one block, whose first byte is that at `first` of the window, for the starts at `at` or behind it and before this one. `unread` is the place that
- * couldn't be read, or LUKS_TO_END; so many sectors that can't be may stand as zeros. */
+/* Searches one block, which begins at `first` in the window, for the first start from `at` on and before `before`. `unread` is the place that
+ * couldn't be read, or LUKS_TO_END. Up to `blanks` unreadable sectors count as zeros. */
 static uint32_t find_in_block(int fd, uint64_t start, uint64_t first, uint64_t count, uint64_t at, uint64_t before, unsigned blanks, uint64_t *place,
                               uint64_t *unread)
 {
@@ -1865,12 +1866,12 @@ static uint32_t find_in_block(int fd, uint64_t start, uint64_t first, uint64_t c
     return answer;
 }
 
-/* Of so many sectors that can't be read a search goes on at once: each takes a failing disk a second or more. */
+/* Over how many unreadable sectors a search goes on: each takes a failing disk a second or more. */
 #define MOST_BLANKS 16
 
-/* Passes over a sector that can't be read: the block, of so many bytes, then begins behind it, where it lies before `at`. Else what begins from `at` on and not behind
- * that sector is searched for: a volume that begins there is told by its second copy. Where there is none this is LUKS_DEVICE, and `place` what lies behind the sector;
- * so it is where the search goes on in the midst of it, behind a volume that begins there. */
+/* Passes over a sector that can't be read. If it is before `at`, the block of `count` bytes then begins after it. Else it searches for a volume that
+ * begins from `at` on and not after the sector; its second copy may tell of it. If there is none, the answer is LUKS_DEVICE, and `place` is the first
+ * byte after the sector. That is also the answer if the search goes on inside the sector, after a volume that begins there. */
 static uint32_t pass_over(int fd, uint64_t start, uint64_t *first, uint64_t count, uint64_t from, uint64_t at, uint64_t unread, uint64_t *place)
 {
     uint64_t again, behind = ((start + unread) / SECTOR + 1) * SECTOR - start;
@@ -1924,7 +1925,7 @@ uint32_t luks_find_watched(int fd, uint64_t offset, uint64_t length, uint64_t fr
     return LUKS_DONE;
 }
 
-/* Says to stop once one block was searched, and keeps where the next one begins. */
+/* Stops a search after one block, and keeps where the next one begins. */
 struct step {
     bool is_begun;
     uint64_t reached;
@@ -1959,13 +1960,13 @@ uint32_t luks_find_step(int fd, uint64_t offset, uint64_t length, uint64_t from,
 
 /* ---- a volume by its name ---- */
 
-/* Where cryptsetup's files stand for block devices. */
+/* The folder of cryptsetup's lock files for block devices. */
 #define LOCKS "/run/cryptsetup"
 
 /* The pause before a lock is asked for again, in milliseconds. */
 #define PAUSE 50
 
-/* What asking once for a lock came to: it is held, another holds it or may by now, or the file can't be locked. */
+/* What one try to lock a file gave: the lock is held, another program holds it or may by now, or the file can't be locked. */
 enum lock { HELD, TAKEN, UNKNOWN };
 
 static enum lock lock_once(int fd, bool writes)
@@ -1977,15 +1978,15 @@ static enum lock lock_once(int fd, bool writes)
     return answer == 0 ? HELD : errno == EWOULDBLOCK ? TAKEN : UNKNOWN;
 }
 
-/* Whether the name is still that of this file. */
+/* Whether this file still has the name. */
 static bool is_at(int fd, const char *name)
 {
     struct stat held, named;
     return fstat(fd, &held) == 0 && lstat(name, &named) == 0 && held.st_dev == named.st_dev && held.st_ino == named.st_ino;
 }
 
-/* Asks once for the lock on the file that stands for a block device, which is made where it is missing, and keeps it open in `lock`. cryptsetup removes
- * it when it lets go, and a lock on a removed file is worth nothing: so its name is looked at again. */
+/* Tries once to lock cryptsetup's file for a block device, makes it if it is missing, and keeps it open in `lock`. cryptsetup removes the file when
+ * it releases it, and a lock on a removed file is worth nothing. So the name is looked up again. */
 static enum lock lock_name(dev_t device, bool writes, int *lock)
 {
     char name[64];
@@ -2007,7 +2008,7 @@ static enum lock lock_name(dev_t device, bool writes, int *lock)
     return answer;
 }
 
-/* Asks once for all locks of the file that is open. */
+/* Tries once to take all locks of the open file. */
 static enum lock lock_volume(const struct stat *about, bool writes, struct luks_volume *volume)
 {
     enum lock answer = lock_once(volume->fd, writes);
@@ -2016,7 +2017,7 @@ static enum lock lock_volume(const struct stat *about, bool writes, struct luks_
     return answer;
 }
 
-/* What is open has bytes at places, and may be written where it is to be. */
+/* Refuses what is neither a regular file nor a block device, and a read-only device that is to be written. */
 static int judge_kind(const struct stat *about, int fd, bool writes)
 {
     int is_read_only = 0;
@@ -2031,7 +2032,7 @@ static int judge_kind(const struct stat *about, int fd, bool writes)
     return 0;
 }
 
-/* Waits for the locks, for at most so many milliseconds. */
+/* Waits for the locks, for at most `milliseconds`. */
 static uint32_t wait_for_locks(const struct stat *about, bool writes, uint32_t milliseconds, struct luks_volume *volume)
 {
     const struct timespec pause = {.tv_nsec = PAUSE * 1000000L};
