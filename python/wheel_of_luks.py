@@ -1,7 +1,7 @@
 """Builds the wheel of this folder's module with the shared library in it, as pip asks (PEP 517): `pip install ./python`.
 
-The library is bin/libluks.so.1 beside this folder, which `make library` leaves there; the environment's LIBLUKS names another one. The wheel is of this
-system's kind alone: Linux on x86-64 with a C library that the library can be loaded by. Nothing is downloaded.
+It takes bin/libluks.so.1 beside this folder, which `make library` puts there, or the file that the environment variable LIBLUKS names. The wheel works
+only on Linux on x86-64, with a C library that can load libluks. Nothing is downloaded.
 """
 import base64
 import ctypes
@@ -22,7 +22,7 @@ def library():
 
 
 def version(path):
-    """What the library says that it is."""
+    """The version that the library says it is."""
     told = ctypes.CDLL(os.path.abspath(path)).luks_version
     told.restype = ctypes.c_char_p
     return told().decode("ascii")

@@ -1,4 +1,4 @@
-"""What is wrong with the header of a LUKS volume, what opens it, edits of its keyslots, and its backups: the calls of libluks.
+"""Checks, lists and opens LUKS volumes, edits their keyslots, makes and backs up headers, and finds volumes on a disk: the calls of libluks.
 
     >>> import luks
     >>> with luks.Volume("disk.img") as volume:
@@ -26,15 +26,15 @@
     ...     list(disk.find())
     [1048576]
 
-A volume that isn't accepted, and an edit that is refused, raise `Fault`, which says what it means and what to try next; then nothing
-was written. A passphrase that opens nothing is None only where it was tried on each keyslot; else `Untried` is raised, which says which keyslots
-weren't tried, and why. A volume that is opened by its name is locked as `luks` locks it, so that an edit by that program waits, or is refused.
+If a volume isn't accepted or an edit is refused, `Fault` is raised, which says what it means and what to try next; nothing was written then.
+If a passphrase opens nothing, the answer is None, but only if it was tried on each keyslot. Otherwise `Untried` is raised, which says which
+keyslots weren't tried, and why. A volume that is opened by its name is locked as `luks` locks it, so an edit by that program waits or is refused.
 
-A passphrase is bytes, a bytearray or a memoryview of bytes. The copies that are made here are written over; what stays with the caller is its own
-object, which of `bytes` can't be written over, and what `key` returns.
+A passphrase is bytes, a bytearray or a memoryview of bytes. This module writes zeros over its own copies. Two objects stay with the caller: the
+passphrase, which can't be overwritten if it is `bytes`, and what `key` returns.
 
-The library libluks.so.1 is that which lies beside this module, as in a wheel, or which the system's loader finds; the environment's LIBLUKS names
-another.
+The module loads libluks.so.1 from its own folder, as in a wheel, or else where the system's loader finds it. The environment variable LIBLUKS
+names another file.
 """
 from __future__ import annotations
 
@@ -69,11 +69,11 @@ KEEPINGS = ("absent", "same", "older", "missing", "removed", "damaged")
 COPIES = (None, "in-step", "first-newer", "second-newer", "first-only", "second-only")
 SECTOR = 512
 PAUSE = 0.05
-"""Seconds before a lock is asked for again."""
+"""How many seconds pass between two tries."""
 UNTRIED = (Number.OUTSIDE, Number.ARGON2, Number.CIPHER, Number.HASH, Number.KEY_SIZE)
-"""The faults by which a passphrase isn't tried on a keyslot."""
+"""The faults for which a passphrase isn't tried on a keyslot."""
 OLDER = (Number.CIPHER, Number.HASH)
-"""Those of them that a keyslot of an older disk may have only because `older` wasn't said."""
+"""The two of them that a keyslot of an older disk has unless `older` is set."""
 
 
 def _slot(number: int) -> int:
@@ -105,14 +105,14 @@ def _kib(mib: int) -> int:
 
 
 def _text(text: Optional[str]) -> Optional[bytes]:
-    """A text's bytes, as C takes them, which ends with the first 0."""
+    """A text's bytes. For C the first 0 ends a text, so it may have none."""
     if text is not None and "\0" in text:
         raise ValueError("a text has no null character")
     return None if text is None else text.encode()
 
 
 def _known(number: int) -> int:
-    """The number by its name, where this module knows it."""
+    """The number as a `Number`, if this module knows it."""
     try:
         return Number(number)
     except ValueError:
@@ -120,11 +120,11 @@ def _known(number: int) -> int:
 
 
 class Fault(Exception):
-    """Why a call wasn't done.
+    """Why a call failed or was refused.
 
-    `number` is that of luks.h, by its name one of `Number`; `name` the fault as `luks` prints it, without brackets. `meaning` says what it means,
-    `place` where it can stand, `safe` what is still safe, and `next` what to try next; the last three may be empty. `use` is of OtherUse alone: what
-    the disk is used for.
+    `number` is the number in luks.h, a `Number` if this module knows it. `name` is the fault as `luks` prints it, without brackets. `meaning` says
+    what it means, `place` where it can be, `safe` what is still safe, and `next` what to try next; the last three may be empty. `use` says what the
+    disk is used for; only OtherUse has it.
     """
 
     def __init__(self, number: int, use: Optional[str] = None) -> None:
@@ -138,11 +138,11 @@ class Fault(Exception):
 
 
 class Untried(Exception):
-    """The passphrase opens no keyslot that it was tried on, and on these it wasn't tried.
+    """The passphrase opens no keyslot that it was tried on, and some keyslots weren't tried.
 
-    `keyslots` has each of them with the fault by which it wasn't, or None where its priority is 0: it is tried only where it is named, by `open`.
-    `memory` is how many MiB would let all that take too much be tried, 0 where none does; `older` whether some weren't for their cipher or hash, which
-    `older=True` accepts where it is one of older disks.
+    `keyslots` has these, each with the fault for which it wasn't tried, or None if its priority is 0: then only `open` tries it, by its number.
+    `memory` is how many MiB it takes to try those that need more memory; 0 if none does. `older` says whether some weren't tried for their cipher or
+    hash; `older=True` accepts it if it is one of older disks.
     """
 
     def __init__(self, keyslots: Dict[int, Optional[Fault]], memory: int = 0, older: bool = False) -> None:
@@ -156,7 +156,7 @@ class Untried(Exception):
 
 
 class Unreadable(OSError):
-    """Sectors of 512 bytes of the disk couldn't be read, and were passed over: `sectors` has the place of each."""
+    """Sectors of the disk, of 512 bytes, couldn't be read and were passed over. `sectors` has the place of each."""
 
     def __init__(self, sectors: List[int]) -> None:
         self.sectors = sectors
@@ -167,20 +167,20 @@ class Unreadable(OSError):
 
 
 def explain(number: int) -> Fault:
-    """What is said of a number of luks.h, as the exception that it raises."""
+    """Explains a number of luks.h, as the exception that it raises."""
     return Fault(number)
 
 
 @dataclass(frozen=True)
 class Report:
-    """What a volume is that is accepted."""
+    """What `check` says of an accepted volume."""
 
     version: int
     """1 or 2."""
     copies: Optional[str]
-    """How the copies of a LUKS2 header stand: in-step, first-newer, second-newer, first-only or second-only. LUKS1 has none."""
+    """How the two copies of a LUKS2 header compare: in-step, first-newer, second-newer, first-only or second-only. None for LUKS1."""
     seqid: Optional[int]
-    """The sequence number of the copy that counts. LUKS1 has none."""
+    """The sequence number of the copy that counts. None for LUKS1."""
     areas: int
     """How many areas it has: headers, keyslots, segments."""
 
@@ -192,24 +192,27 @@ class Derivation:
         >>> Derivation("argon2id", passes=4, memory=1024 * 1024, lanes=4)
         >>> Derivation("pbkdf2", iterations=1000000)
 
-    Where the call allows less memory, or a cost is outside its bounds, the fault is Argon2; LUKS1 has pbkdf2 alone.
+    If the call allows less memory, or if a cost is outside its bounds, the fault is Argon2. LUKS1 has only pbkdf2.
     """
 
     kind: str
     """pbkdf2, argon2i or argon2id."""
     iterations: int = 100000
-    """Of pbkdf2, at least 1000."""
+    """pbkdf2: at least 1000."""
     passes: int = 4
-    """Of Argon2, at least one."""
+    """Argon2: at least one."""
     memory: int = 1024 * 1024
-    """How many KiB Argon2 takes, at least 8 for each lane."""
+    """Argon2: in KiB, at least 8 for each lane."""
     lanes: int = 4
-    """Of Argon2, 1 to 2^24 - 1."""
+    """Argon2: 1 to 2^24 - 1."""
 
     @classmethod
     def timed(cls, kind: str, milliseconds: int, memory: int = 1024 * 1024, lanes: int = 4, hash: str = "sha256") -> Derivation:
-        """The costs that take about so many milliseconds on this machine, which are measured: the iterations of pbkdf2 by this hash, at least 1000; of Argon2 the
-        passes, at least 4, over `memory` KiB, or less memory, but at least 64 MiB, where 4 passes take longer."""
+        """Measures which costs take about `milliseconds` on this machine.
+
+        For pbkdf2 these are the iterations by this hash, at least 1000. For Argon2 these are the passes, at least 4, over `memory` KiB; if 4 passes
+        take longer, it is less memory, but at least 64 MiB.
+        """
         if kind not in KINDS[1:] or hash not in HASHES[1:]:
             raise ValueError("a derivation is pbkdf2, argon2i or argon2id, a hash sha1, sha256 or sha512")
         chosen = DerivationRecord()
@@ -228,19 +231,19 @@ class Derivation:
 
 
 def _choice(derivation: Optional[Derivation]) -> Any:
-    """What a call takes that chooses a derivation, or none."""
+    """The argument for a call that takes a derivation or none."""
     return None if derivation is None else ctypes.pointer(derivation._numbers())
 
 
 @dataclass(frozen=True)
 class Comparison:
-    """How a backup stands to a volume."""
+    """How a backup compares to a volume."""
 
     is_same_key: bool
     """Whether a digest of the backup's volume key is one of the volume's."""
     keyslots: Dict[int, str]
-    """How each keyslot of either stands, by its number: same, older (it was made anew since), missing (the volume alone has it), removed
-    (the backup alone has it) or damaged (their key areas differ)."""
+    """What became of each keyslot, by its number: same, older (it was made anew since), missing (only the volume has it), removed (only the
+    backup has it) or damaged (their key areas differ)."""
 
     @property
     def is_current(self) -> bool:
@@ -252,8 +255,8 @@ T = TypeVar("T")
 
 
 def _apart(call: Callable[[], T]) -> T:
-    """What the call gives, which is made on a thread of its own, since Python looks for signals between two calls alone: KeyboardInterrupt leaves it
-    there to its end."""
+    """Makes the call on another thread, and returns its result. Python looks for signals only between two calls, so this lets KeyboardInterrupt end
+    the wait at once; the thread then goes on to its end."""
     given: List[T] = []
     thrown: List[BaseException] = []
 
@@ -275,15 +278,14 @@ def _apart(call: Callable[[], T]) -> T:
 class Volume:
     """A LUKS volume: `length` bytes of a file or block device from `offset` on, or all that follow.
 
-    It is given by its name, and is then opened and locked until `close`, for reading, or where it `writes` for both; or as a descriptor
-    that the caller opened and locks. A name whose volume another program edits, or uses where it `writes`, is waited for, so many seconds,
-    and then raises BlockingIOError; one of a folder, a pipe and so on raises OSError. `is_detached` says that it is a header alone, and its
-    data lies on another device.
+    Give its name, and it is opened and locked until `close`, for reading, or with `writes` for reading and writing. Or give a descriptor that you
+    have opened and locked. If another program edits the volume (with `writes`: uses it), the name is tried for `wait` seconds, and then raises
+    BlockingIOError. A folder, a pipe and so on raise OSError. `is_detached` says that the volume is only a header, and its data is on another device.
 
-    Where only one copy of a LUKS2 header is sound, and something else stands in the place of the other by now, an edit is refused by
-    OtherUse, unless it may write `over` that.
+    If only one copy of a LUKS2 header is sound, and something else is in the place of the other by now, an edit is refused by OtherUse, unless
+    `over` allows it to overwrite that.
 
-    A volume is for one thread at a time; two of them, also of one file that is only read, are for two threads.
+    Use a volume on one thread at a time. Two threads may use two volumes, also of one file that is only read.
     """
 
     def __init__(self, volume: Union[str, os.PathLike[str], int], offset: int = 0, length: Optional[int] = None, *, writes: bool = False,
@@ -300,7 +302,7 @@ class Volume:
             self._fd = self._opened.fd
 
     def _open(self, name: str, writes: bool, wait: float) -> None:
-        """Opens the file of this name and locks it; between two tries Python looks for signals."""
+        """Opens the file of this name and locks it. Python looks for signals between two tries."""
         end = time.monotonic() + wait
         while True:
             answer = LIBRARY.luks_open_volume(os.fsencode(name), writes, 0, ctypes.byref(self._opened))
@@ -324,15 +326,15 @@ class Volume:
         self.close()
 
     def close(self) -> None:
-        """Closes the file where this opened it, and so gives its locks back."""
+        """Closes the file if this object opened it, which releases its locks."""
         if self._opened.fd >= 0:
             LIBRARY.luks_close_volume(ctypes.byref(self._opened))
             self._fd = -1
 
     def check(self, is_detached: bool = False) -> Report:
-        """Whether the volume is well formed, with its areas; else its first fault is raised.
+        """Checks that the volume is well formed, with its areas; if it isn't, raises its first fault.
 
-        `is_detached` says that it is a header alone, and its data lies on another device, as that of the volume does.
+        `is_detached` says for this call, as it does for the volume, that this is only a header, and its data is on another device.
         """
         report = ReportRecord()
         self._done(LIBRARY.luks_check(self._fd, *self._window, is_detached or self._is_detached, ctypes.byref(report)))
@@ -341,11 +343,11 @@ class Volume:
         return Report(report.version, COPIES[report.copies], report.seqid, report.areas)
 
     def show(self) -> Dict[str, Any]:
-        """What the header says: the object that `luks show --json` prints. Areas may lie where they can't; `check` says so."""
+        """What the header says: the object that `luks show --json` prints. Areas may be in impossible places, which `check` tells."""
         return self._object(LIBRARY.luks_read)
 
     def token(self, number: int) -> Dict[str, Any]:
-        """LUKS2: the token of this number, with all its members, as `add_token` takes it."""
+        """LUKS2: the token of this number with all its members, in the form for `add_token`."""
         return self._object(LIBRARY.luks_token, _slot(number))
 
     def header(self) -> Header:
@@ -353,29 +355,30 @@ class Volume:
         return Header.of(self.show())
 
     def unlock(self, passphrase: Buffer, memory: int = 0, older: bool = False) -> Optional[int]:
-        """The first keyslot that the passphrase opens, or None where it was tried on all that are in use, and opens none.
+        """The first keyslot that the passphrase opens, or None if it was tried on all that are in use and opens none.
 
-        Argon2 may take `memory` MiB; a keyslot that takes more isn't tried. Nor is one with a cipher or a hash of older disks, as
-        aes-cbc-essiv:sha256 or ripemd160, unless `older` says that they are accepted, nor one of priority 0. Where none opens and some weren't
-        tried, `Untried` is raised, and says which. A keyslot that can't be read is passed over; its OSError is raised where none of the others opens.
-        KeyboardInterrupt ends it at once: what was begun is ended by a thread of its own, which holds the volume's lock until then.
+        A keyslot isn't tried if Argon2 takes more than `memory` MiB for it, if its cipher or hash is one of older disks, such as
+        aes-cbc-essiv:sha256 or ripemd160, unless `older` accepts them, or if its priority is 0. If none opens and some weren't tried, `Untried` is
+        raised and says which. A keyslot that can't be read is passed over; if none of the others opens, its OSError is raised. KeyboardInterrupt
+        ends the call at once; another thread completes what was begun, and holds the volume's lock until then.
         """
         found = self._unlocked(passphrase, memory, older, 0)
         return None if found is None else found[0]
 
     def open(self, slot: int, passphrase: Buffer, memory: int = 0, older: bool = False) -> bool:
-        """Whether the passphrase opens this keyslot; a fault of its own is raised."""
+        """Whether the passphrase opens this keyslot. If it can't be tried, the fault is raised."""
         return self._tried(_slot(slot), passphrase, memory, older, 0) is not None
 
     def key(self, passphrase: Buffer, memory: int = 0, older: bool = False) -> Optional[bytes]:
-        """The volume key, by the first keyslot that the passphrase opens, as of `unlock`. It is secret, and stays in Python's memory."""
+        """The volume key, from the keyslot that `unlock` finds. It is secret, and stays in Python's memory."""
         found = self._unlocked(passphrase, memory, older, KEY_ROOM)
         return None if found is None else found[1]
 
     def meets(self, key: Buffer, digest: Optional[int] = None, older: bool = False) -> Optional[int]:
-        """The digest that the key meets: that of this number, or without one that of the volume key; None where it doesn't meet it.
+        """The number of the digest if the key meets it, else None. Without `digest` it is the digest of the volume key.
 
-        What `key` returns meets it. A key of another length than the volume's raises KeyLength, a digest that isn't there NoSuchDigest.
+        What `key` returns meets it. A key whose length isn't that of the volume's key raises KeyLength. A digest that isn't there raises
+        NoSuchDigest.
         """
         judged = ctypes.c_uint32(0)
         with Secret(key) as words:
@@ -387,13 +390,17 @@ class Volume:
 
     def add(self, by: Optional[int], passphrase: Buffer, added: Buffer, to: Optional[int] = None, iterations: int = 100000, memory: int = 0,
             derivation: Optional[Derivation] = None, older: bool = False, *, is_key: bool = False) -> int:
-        """Adds a keyslot, the least that is free or `to`, in which the passphrase `added` opens what `passphrase` opens in the keyslot `by`,
-        or, where that is None, in the one that `unlock` finds; Locked is raised where it finds none.
+        """Adds the keyslot `to`, or the lowest free one, and returns its number.
 
-        It derives by the `derivation`, or where there is none as that keyslot does: by Argon2 of the same costs, or by PBKDF2 with so many
-        iterations. Argon2 may take `memory` MiB, of either keyslot. Where `older` is so, the keyslot `by` may be one of an older disk, and
-        the new one has the same cipher and hash. Where `is_key` is so, `passphrase` is the volume key: of the keyslot `by`, whose key
-        material isn't read, and may be destroyed, or where that is None of the volume, which needs no keyslot for it. Returns the new keyslot.
+        The passphrase `added` then opens in it what `passphrase` opens in the keyslot `by`. If `by` is None, that is the keyslot that `unlock`
+        finds; if it finds none, Locked is raised.
+
+        The new keyslot derives by `derivation`. Without one it derives as the keyslot `by` does: by Argon2 with the same costs, or by PBKDF2 with
+        `iterations`. Argon2 may take `memory` MiB for either keyslot. With `older` the keyslot `by` may be one of an older disk, and the new one has
+        the same cipher and hash.
+
+        With `is_key`, `passphrase` is the volume key. If `by` names a keyslot, the key is that keyslot's, and its key material isn't read, so it may
+        be destroyed. If `by` is None, no keyslot is needed.
         """
         named = _slot_or_none(by) if is_key else _slot(self._opener(by, passphrase, memory, older, is_key))
         edit = EditRecord(kind=ADD, by=named, to=_slot_or_none(to), iterations=_iterations(iterations), derivation=_choice(derivation))
@@ -403,11 +410,11 @@ class Volume:
 
     def change(self, slot: Optional[int], passphrase: Buffer, changed: Buffer, iterations: int = 100000, memory: int = 0,
                derivation: Optional[Derivation] = None, older: bool = False, *, is_key: bool = False) -> int:
-        """Puts the passphrase `changed` in the place of the one that opens the keyslot, or, where that is None, the one that `unlock` finds.
-        Returns its number, which LUKS1 changes.
+        """Replaces the passphrase of the keyslot by `changed`, and returns its number, which is a new one for LUKS1. If `slot` is None, it is the
+        keyslot that `unlock` finds.
 
-        From then on it derives by the `derivation`, or where there is none as before. Argon2 may take `memory` MiB,
-        and where `older` is so, the keyslot may be one of an older disk: it keeps its cipher and hash. `is_key` is as of `add`.
+        From then on the keyslot derives by `derivation`, or without one as before. Argon2 may take `memory` MiB. With `older` it may be a keyslot of
+        an older disk, which keeps its cipher and hash. `is_key` is described at `add`.
         """
         slot = self._opener(slot, passphrase, memory, older, is_key)
         edit = EditRecord(kind=CHANGE, slot=_slot(slot), iterations=_iterations(iterations), derivation=_choice(derivation))
@@ -416,11 +423,11 @@ class Volume:
         return made
 
     def remove(self, slot: int, passphrase: Buffer, by: Optional[int] = None, memory: int = 0, older: bool = False, *, is_key: bool = False) -> None:
-        """Removes the keyslot and wipes its area, by its own passphrase or by that of the keyslot `by`; `is_key` is as of `add`."""
+        """Removes the keyslot and wipes its area, by its own passphrase or by that of the keyslot `by`. `is_key` is described at `add`."""
         self._edited(EditRecord(kind=REMOVE, slot=_slot(slot), by=_slot_or_none(by)), passphrase, b"", memory, older, is_key)
 
     def erase(self) -> None:
-        """Removes every keyslot and wipes its area. No passphrase opens the volume afterwards: only a backup of the header, or the volume key, brings the data back."""
+        """Removes every keyslot and wipes its area. No passphrase opens the volume afterwards; only a header backup or the volume key does."""
         self._edited(EditRecord(kind=ERASE), b"", b"")
 
     def repair(self) -> None:
@@ -428,24 +435,24 @@ class Volume:
         self._edited(EditRecord(kind=REPAIR), b"", b"")
 
     def label(self, text: str, subsystem: Optional[str] = None) -> None:
-        """LUKS2: sets the label and, where it is given, the subsystem, each at most 47 bytes that can be printed."""
+        """LUKS2: sets the label and, if it is given, the subsystem, each at most 47 bytes of printable ASCII."""
         own = None if subsystem is None else subsystem.encode()
         self._edited(EditRecord(kind=LABEL, subsystem=own, subsystem_bytes=len(own or b"")), b"", text.encode())
 
     def set_uuid(self, text: Optional[str] = None) -> None:
-        """Sets the uuid: 32 hexadecimal digits with hyphens at places 8, 13, 18 and 23; where it isn't given, a new one of random bytes."""
+        """Sets the uuid: 32 hexadecimal digits with hyphens at places 8, 13, 18 and 23. Without a text it is a new one of random bytes."""
         self._edited(EditRecord(kind=UUID), b"", (text or "").encode())
 
     def set_priority(self, slot: int, priority: str) -> None:
-        """LUKS2: sets when the keyslot is tried where none is named: `ignore`, not at all; `normal`; `prefer`, before the others."""
+        """LUKS2: sets when the keyslot is tried if none is named: `ignore`, not at all; `normal`; `prefer`, before the others."""
         if priority not in PRIORITIES:
             raise ValueError(f"a priority is one of {', '.join(PRIORITIES)}")
         self._edited(EditRecord(kind=PRIORITY, slot=_slot(slot), to=PRIORITIES.index(priority)), b"", b"")
 
     def add_token(self, token: Union[str, Mapping[str, Any]], to: Optional[int] = None) -> None:
-        """LUKS2: adds a token, a JSON object or its text, with the number `to`, or with the least that is free.
+        """LUKS2: adds a token, a JSON object or its text, with the number `to` or the lowest free one.
 
-        It has a `type`, `keyslots`, which are the texts of their numbers, and any other members, which are kept.
+        It has a `type`, `keyslots`, a list of their numbers as texts, and any other members, which are kept.
         """
         text = token if isinstance(token, str) else json.dumps(token)
         self._edited(EditRecord(kind=TOKEN_ADD, to=_slot_or_none(to)), b"", text.encode())
@@ -458,17 +465,19 @@ class Volume:
                derivation: Optional[Derivation] = None, memory: int = 0, key: Optional[Buffer] = None, payload: Optional[int] = None,
                uuid: Optional[str] = None, label: Optional[str] = None, subsystem: Optional[str] = None, cipher: str = "aes-xts-plain64",
                key_bytes: Optional[int] = None, sector_size: int = 512, older: bool = False) -> None:
-        """Makes a volume of LUKS1 or LUKS2 whose keyslot 0 opens by the passphrase.
+        """Makes a LUKS1 or LUKS2 volume whose keyslot 0 opens by the passphrase.
 
-        `key` is its volume key in the place of random bytes; `payload` the sector of 512 bytes at which its data begins, of which no byte
-        changes; `uuid` the text of its uuid. LUKS2 has a `label` and a `subsystem`. Payload, KeyLength, Uuid and BadLabel may refuse these.
+        `key` is its volume key; without it, random bytes. `payload` is the sector of 512 bytes at which its data begins; no byte of the data changes.
+        `uuid` is the text of its uuid. LUKS2 has a `label` and a `subsystem`. Payload, KeyLength, Uuid and BadLabel may refuse these.
 
-        `cipher` is one of CIPHERS, those of older disks with `older` alone, else Cipher refuses it. The volume key has `key_bytes`: if they aren't given
-        as many as `key`, or 64, of a cipher of older disks 32. `sector_size` is how long a sector of the data is, of LUKS2 up to 4096 (SectorSize, Uneven).
+        `cipher` is one of CIPHERS. Those of older disks need `older`, else Cipher refuses them. `key_bytes` is the length of the volume key: by
+        default that of `key`, else 64, or 32 with a cipher of older disks. `sector_size` is the length of the data's sectors, for LUKS2 up to 4096
+        (SectorSize, Uneven).
 
-        The keyslot of LUKS2 derives by the `derivation`, Argon2 with up to `memory` MiB, or where there is none by PBKDF2, as the digest.
-        Where a LUKS header stands that is accepted, at least as a detached one, it is refused by OtherVolume, in the midst of a reencryption
-        by Reencrypting, and where `signature` shows another use of the disk by OtherUse, unless it is to `force` that.
+        The keyslot of LUKS2 derives by `derivation`, Argon2 with up to `memory` MiB; without one by PBKDF2, like the digest.
+
+        Unless you `force` it, the call is refused by OtherVolume if a LUKS header is there that is accepted, at least as a detached one, by
+        Reencrypting during a reencryption, and by OtherUse if `signature` shows another use of the disk.
         """
         if version not in (1, 2) or hash not in HASHES[1:]:
             raise ValueError("a version is 1 or 2, a hash sha1, sha256 or sha512")
@@ -496,9 +505,9 @@ class Volume:
         self._done(answer)
 
     def signature(self, within: Optional[int] = None) -> Optional[str]:
-        """What else the disk is used for, by the signatures among its first `within` bytes or all: GPT, MBR, ext, swap and so on, or None.
+        """What else the disk is used for, by the signatures in its first `within` bytes, or in all: GPT, MBR, ext, swap and so on, or None.
 
-        LUKS itself isn't looked for: `check` is.
+        It doesn't look for LUKS; `check` does.
         """
         shows, room = ctypes.c_uint32(0), ctypes.create_string_buffer(32)
         self._done(LIBRARY.luks_signature(self._fd, *self._window, TO_END if within is None else within, ctypes.byref(shows)))
@@ -508,9 +517,9 @@ class Volume:
     def find(self, start: int = 0, progress: Optional[Callable[[int], object]] = None) -> Iterator[int]:
         """The places at which LUKS volumes begin on this disk, from `start` on and in ascending order, in bytes from its own offset.
 
-        Its header (of LUKS1 also without its magic), its second copy or whole metadata tells of a volume: `check` of one at that offset says more.
-        Before each block `progress` is called with the place up to which was searched. What that raises, and KeyboardInterrupt,
-        ends the search there; a block that was begun is ended by a thread of its own. A sector that can't be read is passed over; behind all that was found `Unreadable` is raised then.
+        A volume is known by its header (for LUKS1 also without its magic), its second copy, or whole metadata; `check` of a volume at that offset
+        says more. `progress` is called before each block, with the place up to which the search is done. What it raises, and KeyboardInterrupt, ends
+        the search there; another thread completes the block. A sector that can't be read is passed over, and `Unreadable` is raised at the end.
         """
         if not 0 <= start <= TO_END:
             raise ValueError("a place is a number of bytes")
@@ -523,7 +532,7 @@ class Volume:
             raise Unreadable(unread)
 
     def _next(self, place: ctypes.c_uint64, progress: Optional[Callable[[int], object]], unread: List[int]) -> bool:
-        """Puts the next such place into `place`, where there is one, block by block."""
+        """Searches block by block. If there is another such place, puts it into `place`, and returns True."""
         reached = ctypes.c_uint64(place.value)
         while True:
             if progress is not None:
@@ -537,7 +546,7 @@ class Volume:
                 return place.value != TO_END
 
     def _stepped(self, start: int) -> Tuple[int, int, int]:
-        """What a search of one block answers: its number, the place that was found, and where the next block begins."""
+        """Searches one block. Returns the answer's number, the place that was found, and where the next block begins."""
         fd = os.dup(self._fd)
 
         def stepped() -> Tuple[int, int, int, int]:
@@ -555,7 +564,7 @@ class Volume:
     def backup(self, name: str | os.PathLike[str]) -> None:
         """Writes a backup of the header and of the key areas in use to a new file of this name, which only its owner may read.
 
-        A file that is there raises FileExistsError. Where the backup fails, its file is taken away again.
+        FileExistsError is raised if there is such a file. If the backup fails, its file is removed again.
         """
         length = ctypes.c_uint64(0)
         self._done(LIBRARY.luks_backup_length(self._fd, *self._window, self._is_detached, ctypes.byref(length)))
@@ -572,9 +581,9 @@ class Volume:
     def restore(self, backup: Volume, *, over_any: bool = False, force: bool = False, over_reencryption: bool = False) -> None:
         """Puts the header and the key areas of a backup, which is only read, onto this volume.
 
-        Where the header that counts here is another volume's it is refused by OtherVolume, unless it may be put `over_any`; where no header
-        of the same volume counts and `signature` shows another use of the disk by OtherUse; both unless it is to `force` that. In the midst
-        of a reencryption, by the metadata that stands here, it is refused by Reencrypting, unless it may be put `over_reencryption`.
+        The call is refused by OtherVolume if the header that counts here is another volume's, unless you allow `over_any`. It is refused by OtherUse
+        if no header of the same volume counts and `signature` shows another use of the disk. `force` allows both. It is refused by Reencrypting if
+        the metadata here tells of a reencryption, unless you allow `over_reencryption`.
         """
         if not over_reencryption and self._is_reencrypting():
             raise Fault(Number.REENCRYPTING)
@@ -584,18 +593,17 @@ class Volume:
         self._done(LIBRARY.luks_restore(backup._fd, *backup._window, self._fd, *self._window, self._is_detached, over_any))
 
     def compare(self, backup: Volume) -> Comparison:
-        """How a backup stands to this volume, keyslot by keyslot. Nothing is written."""
+        """Compares a backup to this volume, keyslot by keyslot. Nothing is written."""
         keyslots, is_same_key = ctypes.create_string_buffer(KEYSLOTS), ctypes.c_bool(False)
         self._done(LIBRARY.luks_compare(backup._fd, *backup._window, self._fd, *self._window, self._is_detached, keyslots, ctypes.byref(is_same_key)))
         return Comparison(is_same_key.value, {n: KEEPINGS[state] for n, state in enumerate(keyslots.raw) if state})
 
     def convert(self, target: Volume, *, force: bool = False) -> None:
-        """Writes to the start of the target a LUKS2 header of this LUKS1 volume, by which each enabled keyslot opens as before.
+        """Writes to the start of the target a LUKS2 header for this LUKS1 volume, with which each enabled keyslot opens as before.
 
-        The target is another file, of 16 MiB or more. Where an accepted LUKS header of another uuid stands there it is refused by
-        OtherVolume, in the midst of a reencryption by Reencrypting, and where its `signature` shows another use by OtherUse, unless it is to
-        `force` that. This volume is only read. Where it
-        `is_detached`, its data lies elsewhere.
+        This volume is only read. If it `is_detached`, its data is elsewhere. The target is another file, of 16 MiB or more. Unless you `force` it,
+        the call is refused by OtherVolume if an accepted LUKS header with another uuid is there, by Reencrypting during a reencryption, and by
+        OtherUse if the target's `signature` shows another use.
         """
         if not force:
             target._refuse_standing(self._uuid())
@@ -603,12 +611,12 @@ class Volume:
 
     def rebuild(self, target: Volume, uuid: Optional[str] = None, *, second: bool = False, size: int = 0, cipher: Optional[str] = None,
                 hash: Optional[str] = None, key_bytes: Optional[int] = None, payload: Optional[int] = None, force: bool = False) -> None:
-        """Writes to the start of the target a header of what is still whole in this volume, which is only read.
+        """Writes to the start of the target a header made from what is still whole in this volume, which is only read.
 
-        Of LUKS2 that is metadata that a checksum vouches for, or else the first that is whole, where no header counts; of the `second` copy,
-        or of a copy of `size` bytes, also where one does. Of LUKS1 these are the fields and keyslots that still stand; `cipher` (as
-        aes-xts-plain64), `hash`, `key_bytes` and `payload` (the sector where the data begins) say that LUKS1 is meant, and win over what
-        stands, as `uuid` does. Without these options LUKS2 comes first. What stands on the target is asked for as by `convert`.
+        For LUKS2 that is metadata that a checksum vouches for, or else the first that is whole, if no header counts. With `second` it is that of the
+        second copy, with `size` that of a copy of so many bytes, even if a header counts. For LUKS1 it is the fields and keyslots that are left.
+        `cipher` (such as aes-xts-plain64), `hash`, `key_bytes` and `payload` (the sector where the data begins) say that LUKS1 is meant; they and
+        `uuid` win over what is there. Without these options LUKS2 comes first. The target is refused as by `convert`.
         """
         fields = (cipher, hash, key_bytes, payload)
         if (second or size) and fields != (None,) * 4:
@@ -632,7 +640,7 @@ class Volume:
             raise Fault(Number.OTHER_USE, use)
 
     def _uuid(self, needs_check: bool = False) -> Optional[str]:
-        """The uuid of the header that counts, where it can be shown, or where it is to be accepted too."""
+        """The uuid of the header that counts, or None if it can't be shown or, with `needs_check`, isn't accepted."""
         try:
             if needs_check:
                 self.check(is_detached=True)
@@ -643,7 +651,7 @@ class Volume:
             return None
 
     def _refuse_standing(self, uuid: Optional[str]) -> None:
-        """Refuses to write over an accepted LUKS header of another uuid, over a reencryption, and over another use of the disk."""
+        """Refuses to overwrite an accepted LUKS header with another uuid, a reencryption, and another use of the disk."""
         standing = self._uuid(needs_check=True)
         if standing is not None and standing != uuid:
             raise Fault(Number.OTHER_VOLUME)
@@ -652,7 +660,7 @@ class Volume:
         self._refuse_use(self.signature())
 
     def _is_of(self, backup: Volume) -> bool:
-        """Whether an accepted header of the backup's volume stands here."""
+        """Whether this volume has an accepted header of the backup's volume."""
         try:
             self.compare(backup)
         except Fault as fault:
@@ -662,7 +670,7 @@ class Volume:
         return True
 
     def _is_reencrypting(self) -> bool:
-        """Whether the metadata of one of the places of a LUKS2 header tells of a reencryption."""
+        """Whether metadata at one of the places of a LUKS2 header tells of a reencryption."""
         return any(self._tells_reencryption(place) for place in (0, *(2**n for n in range(14, 23))))
 
     def _tells_reencryption(self, place: int) -> bool:
@@ -680,7 +688,7 @@ class Volume:
             return False
 
     def _refuse_other_use(self) -> None:
-        """Refuses to overwrite another use of the disk in the place of a copy that isn't sound."""
+        """Refuses to overwrite another use of the disk in the place of an unsound copy."""
         try:
             shown = self.show()
         except Fault:
@@ -701,7 +709,7 @@ class Volume:
         return found
 
     def _object(self, call: Callable[..., int], *words: int) -> Dict[str, Any]:
-        """The object whose text a call puts into a buffer."""
+        """The JSON object whose text a call puts into a buffer."""
         bytes_ = ctypes.c_uint64(1 << 16)
         while True:
             room = bytes_.value
@@ -723,7 +731,7 @@ class Volume:
         return None if slot.value == NO_SLOT else slot.value
 
     def _tried(self, slot: int, passphrase: Buffer, memory: int, older: bool, room: int) -> Optional[Tuple[int, bytes]]:
-        """The keyslot and its key, where the passphrase opens it; None where it doesn't."""
+        """The keyslot and its key if the passphrase opens it, else None."""
         limit, fd = _kib(memory), os.dup(self._fd)
 
         def tried() -> Tuple[int, int, bytes]:
@@ -743,7 +751,7 @@ class Volume:
         return slot, found
 
     def _unlocked(self, passphrase: Buffer, memory: int, older: bool, room: int) -> Optional[Tuple[int, bytes]]:
-        """The first keyslot that opens: of LUKS2 those of priority 2 come before those of priority 1."""
+        """The first keyslot that opens, and its key. For LUKS2 those of priority 2 come before those of priority 1."""
         keyslots = [it for it in self.header().keyslots if it.is_enabled]
         untried: Dict[int, Optional[Fault]] = {it.number: None for it in keyslots if it.priority == 0}
         unread: Optional[OSError] = None
@@ -768,7 +776,7 @@ class Volume:
 
     @staticmethod
     def _wanted(keyslots: List[Keyslot], untried: Dict[int, Optional[Fault]]) -> int:
-        """How many MiB the keyslots take that weren't tried by Argon2."""
+        """How many MiB it takes to try the keyslots that were refused by Argon2."""
         by_memory = [n for n, fault in untried.items() if fault is not None and fault.number == Number.ARGON2]
         return max((-(-(it.memory or 0) // 1024) for it in keyslots if it.number in by_memory), default=0)
 

@@ -63,13 +63,13 @@ Progress = ctypes.CFUNCTYPE(ctypes.c_int, ctypes.c_void_p, ctypes.c_uint64, ctyp
 
 
 def _path() -> str:
-    """The environment's LIBLUKS, or the library that lies beside this file, as in a wheel, or what the system's loader finds."""
+    """The file to load: the environment's LIBLUKS, else the library in this folder, as in a wheel, else what the system's loader finds."""
     beside = os.path.join(os.path.dirname(os.path.abspath(__file__)), NAME)
     return os.environ.get("LIBLUKS") or (beside if os.path.exists(beside) else NAME)
 
 
 def _signatures() -> List[Tuple[str, List[Any], Any]]:
-    """Each call that is used here: its name, what it takes and what it answers."""
+    """Each call that the module uses: its name, its arguments and its answer."""
     number, size, place = ctypes.c_uint32, ctypes.c_size_t, ctypes.c_uint64
     window = [ctypes.c_int, place, place]
     given = [ctypes.c_void_p, size]
@@ -124,16 +124,16 @@ LIBRARY = _loaded()
 
 
 def text_of(call: Callable[..., int], *words: int) -> str:
-    """What a call that explains a number puts into a buffer, as one line."""
+    """The text that a call says of a number, as one line."""
     room = ctypes.create_string_buffer(2048)
     count = call(*words, room, len(room))
     return " ".join(line.strip() for line in room.raw[:count].decode("ascii").split("\n"))
 
 
 class Secret:
-    """A copy of bytes that are secret, over which zeros are written when it is left.
+    """A copy of secret bytes, which is overwritten with zeros at the end of its `with`.
 
-    Its two arguments for a call are the address and the number of bytes.
+    It gives the two arguments for a call: the address and the number of bytes.
     """
 
     def __init__(self, given: Buffer) -> None:
@@ -151,7 +151,7 @@ class Secret:
 
 
 def _items_of(given: Buffer) -> memoryview:
-    """The bytes of a buffer in one dimension whose items are bytes."""
+    """The bytes of a buffer, which has one dimension and items of one byte."""
     view = memoryview(given)
     if view.ndim != 1 or view.itemsize != 1 or view.format.lstrip("@=<>!") not in ("B", "b", "c"):
         raise TypeError("a passphrase is a buffer in one dimension whose items are bytes")

@@ -1,11 +1,11 @@
-"""The numbers by which the calls of libluks answer."""
+"""The numbers that the calls of libluks answer."""
 import enum
 
 __all__ = ["Number"]
 
 
 class Number(enum.IntEnum):
-    """A fault from 1 to 99, and from 101 on what else a call answers, as in luks.h."""
+    """The numbers of luks.h: 1 to 99 are faults, those from 101 on are other answers."""
 
     # made by tools/faults
     DONE = 0

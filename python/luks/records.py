@@ -10,42 +10,42 @@ __all__ = ["Digest", "Header", "Keyslot", "Segment", "Token"]
 
 @dataclass(frozen=True)
 class Keyslot:
-    """A keyslot: of LUKS2 one that the metadata has, of LUKS1 one of the eight."""
+    """A keyslot: for LUKS2 one in the metadata, for LUKS1 one of the eight."""
 
     number: int
     is_enabled: bool
-    """Whether it is in use; of LUKS1 one may not be, and then no field below that may be None is told but `cipher`."""
+    """Whether it is in use. A LUKS1 keyslot may not be; then only its key area, its stripes and its digest are known."""
     cipher: str
-    """Of its key area, as aes-xts-plain64."""
+    """The cipher of its key area, such as aes-xts-plain64."""
     area_key_bytes: int
     offset: int
     """The start of its key area, in bytes from the volume's start."""
     size: int
     stripes: int
     key_bytes: Optional[int] = None
-    """The length of the volume key that it has."""
+    """The length of its volume key."""
     kdf: Optional[str] = None
     """pbkdf2, argon2i or argon2id."""
     hash: Optional[str] = None
-    """Of pbkdf2."""
+    """Only for pbkdf2."""
     iterations: Optional[int] = None
-    """Of pbkdf2."""
+    """Only for pbkdf2."""
     passes: Optional[int] = None
-    """Of Argon2."""
+    """Only for Argon2."""
     memory: Optional[int] = None
-    """How many KiB Argon2 takes."""
+    """Only for Argon2: in KiB."""
     lanes: Optional[int] = None
-    """Of Argon2."""
+    """Only for Argon2."""
     salt: Optional[bytes] = None
     priority: int = 1
-    """Of LUKS2: 2 is tried first, 0 only where it is named."""
+    """For LUKS2: 2 is tried first, 0 only if the keyslot is named."""
     digest: Optional[int] = None
-    """The digest of its volume key; of LUKS1 there is one."""
+    """The digest of its volume key. LUKS1 has only one."""
 
 
 @dataclass(frozen=True)
 class Segment:
-    """A stretch of the data; of LUKS1 there is one."""
+    """A part of the data. LUKS1 has only one."""
 
     number: int
     kind: str
@@ -53,7 +53,7 @@ class Segment:
     offset: int
     """Where it begins, in bytes from the start of the device that has the data."""
     size: Optional[int]
-    """In bytes; None: up to the device's end."""
+    """In bytes; None means up to the device's end."""
     cipher: Optional[str] = None
     sector_size: Optional[int] = None
     iv_tweak: Optional[int] = None
@@ -61,7 +61,7 @@ class Segment:
 
 @dataclass(frozen=True)
 class Digest:
-    """What tells that a volume key is the right one; of LUKS1 there is one."""
+    """Tells whether a volume key is the right one. LUKS1 has only one."""
 
     number: int
     kind: str
@@ -75,7 +75,7 @@ class Digest:
 
 @dataclass(frozen=True)
 class Token:
-    """Of LUKS2: how some other program comes to a passphrase of these keyslots."""
+    """For LUKS2: how another program gets a passphrase of these keyslots."""
 
     number: int
     kind: str
@@ -84,13 +84,13 @@ class Token:
 
 @dataclass(frozen=True)
 class Header:
-    """What the header says that counts."""
+    """What the header that counts says."""
 
     version: int
     """1 or 2."""
     uuid: str
     label: str
-    """Of LUKS2."""
+    """Only for LUKS2, else empty."""
     keyslots: Tuple[Keyslot, ...]
     segments: Tuple[Segment, ...]
     digests: Tuple[Digest, ...]
@@ -98,7 +98,7 @@ class Header:
 
     @classmethod
     def of(cls, shown: Mapping[str, Any]) -> Header:
-        """Of the object of `show`."""
+        """Makes it from the object of `show`."""
         keyslots = tuple(map(_keyslot, shown["keyslots"]))
         if shown["version"] == 1:
             return cls(1, _text(shown["uuid"]), "", keyslots, (_payload(shown),), (_digest1(shown, keyslots),), ())
@@ -107,7 +107,7 @@ class Header:
 
 
 def _text(value: Any) -> str:
-    """A text that isn't UTF-8 isn't shown as one."""
+    """The text, or an empty one if it isn't UTF-8: `show` then gives no text."""
     return value if isinstance(value, str) else ""
 
 
