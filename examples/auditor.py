@@ -1,7 +1,8 @@
-"""Looks through many images and says which need somebody: auditor.py IMAGE..
+"""Checks many images and says which ones need attention: auditor.py IMAGE..
 
-A line of JSON for each image, as many at once as there are processors: what it is, the first fault of a header that isn't accepted and what to try next,
-a LUKS2 volume of whose copies one isn't sound, and keyslots that derive too cheaply. The status is 0 where nothing is to be done.
+It prints a line of JSON for each image: what it is, or the first fault of its header and what to try next. An image needs attention if its header isn't
+accepted, if the two copies of its LUKS2 header disagree, if a keyslot derives too cheaply, or if it has no keyslot. The status is 0 if none does. It
+checks as many images at once as there are processors.
 """
 import json
 import multiprocessing
@@ -15,7 +16,7 @@ LEAST_KIB = 32 * 1024
 
 
 def cheap(keyslot: luks.Keyslot) -> bool:
-    """Whether trying passphrases on it is quick."""
+    """Whether passphrases can be tried on it quickly."""
     if keyslot.kdf == "pbkdf2":
         return (keyslot.iterations or 0) < LEAST_ITERATIONS
     return (keyslot.memory or 0) < LEAST_KIB

@@ -1,4 +1,4 @@
-/* Says whether a volume is well formed, and else what to try next: check VOLUME
+/* Says whether a volume is well formed and, if it isn't, what to try next: check VOLUME
  *
  *     cc check.c -lluks -o check
  */

@@ -1,10 +1,10 @@
-/* Makes an encrypted volume as an installer does: installer VOLUME PASSPHRASE RECOVERY BACKUP
+/* Makes an encrypted volume, as an installer does: installer VOLUME PASSPHRASE RECOVERY BACKUP
  *
  *     cc installer.c -lluks -o installer
  *
- * The volume is a file or a block device, the passphrase and the one for recovery are files, of which every byte counts. What else the disk
- * is used for, and a volume that stands there, is never written over. The keyslots derive by Argon2id. A backup of the header goes to
- * the new file BACKUP. It ends with 0 where all is done, and else says why not.
+ * VOLUME is a file or a block device. PASSPHRASE and RECOVERY are files, and the whole file is the passphrase. The program never overwrites another
+ * use of the disk or another volume. The keyslots derive by Argon2id. A backup of the header goes to the new file BACKUP. The status is 0 if all is
+ * done; otherwise the program says why not.
  */
 #define _DEFAULT_SOURCE
 #include <errno.h>
@@ -22,7 +22,7 @@ struct words {
     size_t count;
 };
 
-/* Says why a call wasn't done, and what to try next. */
+/* Says why a call failed, and what to try next. */
 static int refused(const char *what, uint32_t answer)
 {
     uint8_t text[1024];
@@ -49,7 +49,7 @@ static int read_words(const char *name, struct words *words)
     return 0;
 }
 
-/* What mustn't be written over: another use of the disk, or a volume's header. */
+/* Refuses to overwrite another use of the disk, or a volume's header. */
 static int stands(int fd)
 {
     struct luks_report report = {.size = sizeof report};
@@ -64,7 +64,7 @@ static int stands(int fd)
     return answer == LUKS_DEVICE || answer == LUKS_MEMORY ? refused("check", answer) : 0;
 }
 
-/* A backup of the header in a new file. */
+/* Writes a backup of the header to a new file. */
 static int backs_up(int fd, const char *name)
 {
     uint64_t bytes = 0;

@@ -1,8 +1,8 @@
-"""Saves what can be saved of a disk: rescue.py DISK FOLDER [PASSPHRASE]
+"""Saves the headers of the LUKS volumes on a disk: rescue.py DISK FOLDER [PASSPHRASE]
 
-For each volume that begins on the disk it writes, into the folder, a backup of its header where that is accepted, and else a header that is made of what is
-still whole there, for `cryptsetup open --header`. The passphrase, a file of which every byte counts, is tried on either. The disk is only read. Each line says
-what was found at which byte; the status is 0 where each volume was saved. Ctrl-C ends it.
+For each volume that begins on the disk it writes a file into the folder: a backup of the header if `check` accepts it, else a header that is made from what
+is still whole, for `cryptsetup open --header`. It tries the passphrase on that. PASSPHRASE is a file, and the whole file is the passphrase. The disk is only
+read. Each line says what was found at which byte. The status is 0 if each volume was saved. Ctrl-C ends it.
 """
 import os
 import sys
@@ -15,7 +15,7 @@ MEMORY = 1024
 
 
 def opened(volume: luks.Volume, passphrase: Optional[bytes]) -> str:
-    """What the passphrase opens."""
+    """Says what the passphrase opens."""
     if passphrase is None:
         return ""
     try:
@@ -26,7 +26,7 @@ def opened(volume: luks.Volume, passphrase: Optional[bytes]) -> str:
 
 
 def rebuilt(volume: luks.Volume, name: str, passphrase: Optional[bytes]) -> str:
-    """A header of what is whole, in a new file that is taken away again where there is none."""
+    """Makes a header from what is whole, in a new file. If there is none, the file is removed again."""
     with open(name, "xb") as file:
         file.truncate(HEADER)
     try:

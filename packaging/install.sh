@@ -1,11 +1,11 @@
 #!/bin/sh
-# Installs luks under a folder, or takes it away again:
+# Installs luks under a folder, or removes it again:
 #
-#   ./install.sh PREFIX             as ./install.sh /usr/local, or ./install.sh "$HOME/.local", which needs no root
+#   ./install.sh PREFIX             such as ./install.sh /usr/local, or ./install.sh "$HOME/.local", which needs no root
 #   ./install.sh --remove PREFIX
 #
-# PREFIX/share/doc/luks/INSTALLED lists what was put there. No other file is written over or removed: where one stands in the way, it is
-# named, and nothing is installed. The status is 0 where all is done, 1 where it isn't, 2 where the words are wrong.
+# PREFIX/share/doc/luks/INSTALLED lists what was installed. The script overwrites and removes no other file. If one is in the way, it names the
+# file and installs nothing. The status is 0 if all is done, 1 if it isn't, 2 if the command line is wrong.
 set -euf
 umask 022
 LC_ALL=C
@@ -26,17 +26,17 @@ usage() {
     exit 2
 }
 
-# The folder's whole name; it has to be there.
+# The folder's full name; it has to exist.
 whole_name() {
     (CDPATH='' cd -- "$1" && pwd) || stop "$1 isn't a folder that can be entered"
 }
 
-# Every file that there is to install, by its place under PREFIX.
+# Every file to install, by its place under PREFIX.
 files() {
     (cd "$from" && find bin include lib share -type f) | sed "s|^share/zsh/site-functions/|share/zsh/$zsh/|" | sort
 }
 
-# The folders of these places that aren't there yet, each with a last slash.
+# The folders of these places that don't exist yet, each with a slash at the end.
 missing_folders() {
     while read -r place; do
         folder=$(dirname "$place")
@@ -47,7 +47,7 @@ missing_folders() {
     done | sort -u
 }
 
-# What INSTALLED lists, of places that this script can have made.
+# What INSTALLED lists, except names that this script can't have made.
 listed() {
     grep -E '^(bin|include|lib|share)/[A-Za-z0-9._/-]*$' "$prefix/$list" 2>/dev/null | grep -v -F .. || :
 }
@@ -74,7 +74,7 @@ refuse_strangers() {
     [ -z "$strangers" ] || stop "there already, and not by this script:$strangers; nothing is installed"
 }
 
-# Each file comes whole under its name, so that a luks that runs goes on.
+# Each file is complete before it gets its name, so a luks that is running isn't disturbed.
 put() {
     source=$(printf '%s\n' "$1" | sed "s|^share/zsh/$zsh/|share/zsh/site-functions/|")
     case $1 in bin/*) mode=755 ;; *) mode=644 ;; esac
@@ -118,7 +118,7 @@ remove_all() {
         case $place in */) ;; *) rm -f "$prefix/$place" "$prefix/$place.new" || stop "not all is removed" ;; esac
     done
     rm -f "$prefix/$list" "$prefix/$list.new" || stop "not all is removed"
-    # a folder that has something else by now is left
+    # a folder that contains something else by now stays
     for place in $all; do
         case $place in */) rmdir "$prefix/$place" 2>/dev/null || : ;; esac
     done
