@@ -640,7 +640,7 @@ class Volume:
             raise Fault(Number.OTHER_USE, use)
 
     def _uuid(self, needs_check: bool = False) -> Optional[str]:
-        """The uuid of the header that counts, or None if it can't be shown or, with `needs_check`, isn't accepted."""
+        """The uuid of the header that counts, where it can be shown, or where it is to be accepted too."""
         try:
             if needs_check:
                 self.check(is_detached=True)
@@ -651,7 +651,7 @@ class Volume:
             return None
 
     def _refuse_standing(self, uuid: Optional[str]) -> None:
-        """Refuses to overwrite an accepted LUKS header with another uuid, a reencryption, and another use of the disk."""
+        """Refuses to write over an accepted LUKS header of another uuid, over a reencryption, and over another use of the disk."""
         standing = self._uuid(needs_check=True)
         if standing is not None and standing != uuid:
             raise Fault(Number.OTHER_VOLUME)
@@ -660,7 +660,7 @@ class Volume:
         self._refuse_use(self.signature())
 
     def _is_of(self, backup: Volume) -> bool:
-        """Whether this volume has an accepted header of the backup's volume."""
+        """Whether an accepted header of the backup's volume stands here."""
         try:
             self.compare(backup)
         except Fault as fault:
