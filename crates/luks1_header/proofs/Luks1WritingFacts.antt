@@ -88,7 +88,7 @@ common_reads_back v w c good put =
       digest_iterated = subst least (good.fields.mk_digest_iterations ∙ sym fields.mk_digest_iterations) good.digest_iterated;
     }
 
--- a key slot that was fit for use is so in the bytes that say it
+-- a key slot that was fit for use is fit for use in the bytes that say it
 pub entry_reads_back : (e f : List ℕ) (s : Luks1Slot) → IsEntry e s → HoldsEntry f s → IsEntry f s
 entry_reads_back e f s good fields = record {
   fields = fields;

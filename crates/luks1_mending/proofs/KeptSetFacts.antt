@@ -1,4 +1,4 @@
--- Of any bytes there is a set of keyslots that are kept: what decides on one can be decided.
+-- There is a set of kept keyslots for any bytes: each condition on a keyslot can be decided.
 use Rattle.std.proofs.Common.{◌≡◌, ◌≢◌, ◌⊎◌, ◌↔◌, ℕ, ◌+◌, ◌<◌, ◌≤◌, Bool, true, List, length, set, zero, suc, inl, inr, refl, ap, ◌∙◌, subst, arith, add-one, length-set}
 use Rattle.std.proofs.lemmas.Bool.{cases_Bool, cases_lt}
 use Rattle.luks_area.specs.Area.{Meet}
@@ -135,7 +135,7 @@ module _ (h : List ℕ) (k total : ℕ) where
 
   -- ---- the set
 
-  -- eight of which those before the place (r, i) are judged
+  -- eight keyslots; those before the place (r, i) are judged
   record Array (r i : ℕ) : Type 0 where
     pub kept : List Bool
     pub eight : length kept ≡ 8

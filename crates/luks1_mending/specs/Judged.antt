@@ -33,7 +33,7 @@ pub record AreTaken (h : List ℕ) (g : Given) (x : Texts) : Type 0 where
 abbrev pub IsUnusable : List ℕ → Given → TextField → Type 0
 IsUnusable h g t = IsUsable t (taken_text h g t) → ⊥
 
--- the first field of which it isn't
+-- the first text field that can't be used
 pub record IsFirstUnusable (h : List ℕ) (g : Given) (t : TextField) : Type 0 where
   pub bad : IsUnusable h g t
   pub first : (s : TextField) → IsUnusable h g s → field_key t ≤ field_key s

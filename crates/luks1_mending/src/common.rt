@@ -104,7 +104,7 @@ fn name(header: &[u8], at: usize, given: Option<ArrayString<32>>) -> Option<Arra
     }
 }
 
-/// The uuid that is given, else that which stands, if it is one.
+/// The given uuid, else the one in the header if it is a uuid.
 fn uuid(header: &[u8], given: Option<ArrayString<40>>) -> Option<ArrayString<40>>
     requires { length header.now ≡ luks1_size }
     ensures is { IfSome result (λ t. t.bytes ≡ uuid_taken header.now 168 given) }
@@ -174,7 +174,7 @@ fn is_printable(c: u8) -> bool
     (0x20..=0x7E).contains(&c)
 }
 
-/// The length of the volume key that is given, else that which stands.
+/// The given length of the volume key, else the one in the header.
 pub(crate) fn key_bytes(header: &[u8], given: &Given) -> Result<u32, HeadFault>
     requires { length header.now ≡ luks1_size }
     ensures row { JudgesRow head_row head_place (IsFieldFault header.now given.now) 8 result }

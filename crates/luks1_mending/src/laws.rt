@@ -5,7 +5,7 @@ ghost use Rattle.luks1_mending.specs.Areas.{own_area};
 ghost use Rattle.luks1_mending.specs.Kept.{AreKept, IsBeforeAndMeets, IsKept, IsSound};
 ghost use Rattle.luks1_mending.specs.MeetsNone.{MeetsNoneBefore};
 
-/// Of any bytes there is exactly one set of keyslots that are kept.
+/// There is exactly one set of kept keyslots for any bytes.
 pub fn kept_keyslots_are_one_set()
     ensures there { (h : List ℕ) (k total : ℕ) → (kept : ℕ → Bool) × AreKept h k total kept }
     ensures one { (h : List ℕ) (k total : ℕ) (a b : ℕ → Bool) → AreKept h k total a → AreKept h k total b

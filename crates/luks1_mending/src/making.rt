@@ -38,7 +38,7 @@ pub fn mended_header(header: &[u8], total: u64, given: &Given) -> Result<Luks1, 
     })
 }
 
-/// The fields before the keyslots, of which those that may be refused are judged.
+/// The fields before the keyslots. Those that may be refused are judged.
 fn common_of(
     header: &[u8],
     given: &Given,

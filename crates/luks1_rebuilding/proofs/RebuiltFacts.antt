@@ -1,4 +1,4 @@
--- From what was made and written to the header of the volume.
+-- What was made and written is the header of the volume.
 use Rattle.std.proofs.Common.{◌≡◌, ℕ, List, length, inl, inr, sym, subst}
 use Rattle.luks_area.specs.Ranges.{SameBut}
 use Rattle.luks_area.proofs.RangeFacts.{same_but-wider}

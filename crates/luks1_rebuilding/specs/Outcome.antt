@@ -80,7 +80,7 @@ pub record IsFaultless (h : List ℕ) (source : ℕ) (g : Given) (total : ℕ) :
 abbrev pub IsRebuildable : List ℕ → Given → ℕ → Type 0
 IsRebuildable v g total = IsFaultless (header_of v) (length v) g total
 
--- ---- of a header that was found, of which it is no matter whether it counts
+-- ---- for a header that was found, whether it counts or not
 
 -- the faults of making a header of it
 abbrev pub IsMakingFault : List ℕ → ℕ → Given → ℕ → Rebuild1Fault → Type 0

@@ -110,7 +110,7 @@ fn fitting_header(fields: Luks1, total: u64) -> Result<MadeHeader, Rebuild1Fault
     }
 }
 
-/// The fault of the areas, of which those outside come first.
+/// The fault of the areas. Areas outside come first.
 fn target_fault(fault: CheckFault) -> Rebuild1Fault
     ensures { result ≡ target_fault fault }
 {

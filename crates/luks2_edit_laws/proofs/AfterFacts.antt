@@ -164,7 +164,7 @@ pub record IsReady (allowed : Allowed) (v : List ℕ) (j : Value) (like : Like) 
   pub random_bytes : IsBytes random
   pub met : (need : ℕ) → NeedsLike j need like → length random ≢ need → ⊥
 
--- it is so of each edit that seals one
+-- each edit that seals a keyslot is ready
 pub ready_by : (v : List ℕ) (o : ℕ) (payload : Data) (e : Edit) (random : List ℕ) (j : Value) → HasMetadata v o j → HasRanges v e random → IsUnrefused2 v payload e random
     → (s : Sealed) → sealed_by e ≡ Some s → (like : Like) → IsLike j (opener_at s.place) like → IsModel j like
     → IsReady (allowed_for (opener_at s.place) s.passphrase.now) v j like s.derivation random

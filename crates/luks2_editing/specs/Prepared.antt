@@ -22,7 +22,7 @@ pub record IsPrepared (number len : ℕ) (j : Value) (random : List ℕ) (need :
   pub room : length (compact_text j) < len
   pub counted : length random ≡ need
 
--- the first that isn't so
+-- the first of these that fails: the room, or the number of random bytes
 pub record IsFullArea (number len : ℕ) (j : Value) : Type 0 where
   pub numbered : number + 1 < 2 ^ 64
   pub full : len ≤ length (compact_text j)

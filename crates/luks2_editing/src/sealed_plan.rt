@@ -25,11 +25,11 @@ use std::alloc::Global;
 
 /// Seals the key in the area of the keyslot `n` of the new metadata, and then writes both copies
 /// anew with that metadata from the chosen one's binary header: the other one first. A flush follows
-/// each. A keyslot whose plan is refused is answered as `Slot`, and then no byte changes, nor where
-/// `Memory` is.
+/// each. If the keyslot's plan is refused, the answer is `Slot`. No byte changes then, nor with
+/// `Memory`.
 ///
-/// Of the random bytes the salts of the copies are the first 128; the keyslot's stripes but the
-/// last are those from the place 160 on.
+/// The first 128 random bytes are the salts of the copies. Those from place 160 on are all stripes
+/// of the keyslot but the last.
 pub(crate) fn write_keyslot<D: Device>(
     alloc: Global,
     device: &mut D,

@@ -24,12 +24,12 @@ use luks2_header::Bin2;
 use luks2_judging::TextFields;
 use std::alloc::Global;
 
-/// Seals the key in the area of the plan, which lies behind the copies, and then writes both copies
-/// anew from the chosen one's binary header: the other one first. A flush follows each. A plan that
-/// is refused is answered as `Slot`, a failed allocation for Argon2 as `Memory`, and then no byte changes.
+/// Seals the key in the area of the plan, which lies behind the copies, and then writes both copies anew
+/// from the chosen one's binary header: the other one first. A flush follows each. The answer is `Slot` if
+/// the plan is refused, and `Memory` if an allocation for Argon2 fails; no byte changes then.
 ///
-/// Of the random bytes the salts of the copies are the first 128; the keyslot's stripes but the
-/// last are those from the place 160 on.
+/// The first 128 random bytes are the salts of the copies. Those from place 160 on are all stripes
+/// of the keyslot but the last.
 pub(crate) fn write_sealed<D: Device>(
     alloc: Global,
     device: &mut D,

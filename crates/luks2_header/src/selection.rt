@@ -38,7 +38,7 @@ pub enum Copies {
 /// The chosen header.
 #[derive(Clone, Copy, PartialEq, Eq)]
 pub enum Selected {
-    /// The 592 bytes of a LUKS1 header, of which its version alone was judged.
+    /// The 592 bytes of a LUKS1 header. Only its version was judged.
     V1([u8; 592]),
     /// The chosen LUKS2 copy; it is at `header.hdr_offset`.
     V2 {
@@ -62,9 +62,8 @@ fn newer(first: Bin2, second: Bin2) -> (Bin2, Copies)
     }
 }
 
-/// The chosen one of the copies of which those that are given are sound, where the first one is.
-/// Then `json`, which holds what is kept of the first one's JSON area, holds what is kept of the
-/// chosen one's.
+/// The chosen copy, if the first one is sound; a copy that is given is sound. `json` holds what is
+/// kept of the first one's JSON area, and afterwards of the chosen one's.
 fn chosen_of(
     first: Option<Bin2>,
     second: Option<Bin2>,

@@ -41,7 +41,7 @@ IsUnlike older j key fault.WrongKey = MeetsNone older j key
 IsUnlike older j key (fault.Slot f) = MayMeetUnknown older j key f
 IsUnlike older j key f = ⊥
 
--- by the volume key a keyslot that is so made isn't refused
+-- by the volume key, a keyslot that is made like this one isn't refused
 abbrev pub IsAcceptedLike : Value → Opener → Like → Type 0
 IsAcceptedLike j o like = MatchOpener o (λ slot secret. ⊤) (λ key. HasRefusal key.allowed.older j like None)
 

@@ -205,7 +205,7 @@ fn like_of(meta: &Meta, digest: u8, len: usize) -> Like
     }
 }
 
-/// By what a keyslot is refused that is made like this one: the cipher of its area, its hashes.
+/// What refuses a keyslot that is made like this one: the cipher of its area, or its hashes.
 fn refusal_like(meta: &Meta, like: Like, older: bool) -> Option<SlotFault>
     requires { IsThereLike (content meta.now) like }
     ensures { HasRefusal older (content meta.now) like result }

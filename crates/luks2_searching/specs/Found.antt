@@ -90,7 +90,7 @@ pub record HasNone2 (allowed : Allowed) (v p : List ℕ) : Type 0 where
 abbrev pub IsFoundNear : Allowed → List ℕ → List ℕ → Found2 → Type 0
 IsFoundNear allowed v p f = (given : Option GivenSegment) → IsFound2 allowed given v p f
 
--- the area is that which stands except for the change
+-- the area is the one that is there, except for the change
 abbrev pub IsNear2 : List ℕ → ℕ → Change2 → List ℕ → Type 0
 IsNear2 json n change.Nothing new = new ≡ json
 IsNear2 json n (change.Bit at bit) new = IsBitTurned json at bit new

@@ -63,7 +63,7 @@ pub(crate) struct NearDigest {
     pub(crate) stood: Vec<u8>,
     /// The other.
     pub(crate) digest: Vec<u8>,
-    /// In how many bits they differ.
+    /// The number of bits in which they differ.
     pub(crate) bits: u32,
 }
 

@@ -35,19 +35,19 @@ pub(crate) enum Step {
     Bits,
 }
 
-/// The first metadata by which the passphrase opens a keyslot, or None where none does: near to that of a copy at the places
-/// that the standard lists whose JSON area begins with a brace; or made of a keyslot and a digest that are whole in
-/// the first 8 MiB, and of the segment that is given, or else of one that is there.
+/// The first metadata by which the passphrase opens a keyslot, or None if there is none. It is near to that of a copy
+/// at the places that the standard lists, whose JSON area begins with a brace. Or it is made of a keyslot and a digest
+/// that are whole in the first 8 MiB, and of the given segment, or else of one that is there.
 ///
-/// Near to that of a copy is what stands; what has a digest that differs in at most 8 bits; what is composed of the bytes
-/// of both copies of one size, where these differ in at most 16; and what has one bit of its text turned. What stands
-/// behind an area's text is taken as zeros. The source never changes. That a digest in reach is found is in no clause, nor
-/// that a keyslot which is whole is.
+/// Metadata near to that of a copy is: the copy's own; one with a digest that differs in at most 8 bits; one composed
+/// of the bytes of both copies of one size, if these differ in at most 16; one with one bit of its text turned. What
+/// follows an area's text counts as zeros. The source never changes. No clause says that a digest in reach is found,
+/// nor that a whole keyslot is found.
 ///
-/// `tally` counts each derivation before it is made: `Spent` comes only where as many were made as may be.
-/// `Device` comes exactly where a device call failed. A keyslot by more than 2^26 iterations, or of more than
-/// 2^16 stripes, isn't tried. Takes memory for the JSON areas of both copies of one size, for that which is found, for two
-/// metadata, for 1 MiB of the source, and what is allowed to Argon2.
+/// `tally` counts each derivation before it is made: `Spent` comes only if as many were made as may be. `Device` comes
+/// exactly if a device call failed. A keyslot with more than 2^26 iterations, or with more than 2^16 stripes, isn't
+/// tried. Takes memory for the JSON areas of both copies of one size, for the one that is found, for two metadata, for
+/// 1 MiB of the source, and what is allowed to Argon2.
 pub fn search2<D: Device, P: Progress>(
     alloc: Global,
     source: &mut D,

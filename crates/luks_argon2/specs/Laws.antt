@@ -11,9 +11,9 @@ DigestOfAbc = blake2b 64 (codes "abc")
     ∷ 125 ∷ 135 ∷ 197 ∷ 57 ∷ 42 ∷ 171 ∷ 121 ∷ 45 ∷ 194 ∷ 82 ∷ 213 ∷ 222 ∷ 69 ∷ 51 ∷ 204 ∷ 149
     ∷ 24 ∷ 211 ∷ 138 ∷ 168 ∷ 219 ∷ 241 ∷ 146 ∷ 90 ∷ 185 ∷ 35 ∷ 134 ∷ 237 ∷ 212 ∷ 0 ∷ 153 ∷ 35 ∷ []
 
--- In the first segment of the first pass, of four blocks in each of two lanes: block 2 has block 0 of
--- its own lane alone to refer to, whatever the pair; block 3 has blocks 0 and 1, and J_1 = 0 takes the
--- last of them (RFC 9106, 3.4.2).
+-- The first segment of the first pass has four blocks in each of two lanes. Block 2 can only refer to
+-- block 0 of its own lane, whatever the pair; block 3 can refer to blocks 0 and 1, and J_1 = 0 takes
+-- the last of them (RFC 9106, 3.4.2).
 abbrev pub IndexesFirstBlocks : Type 0
 IndexesFirstBlocks = (reference 0 4 2 1 2 (2 ^ 32) ≡ (1, 0)) × (reference 0 4 2 1 3 0 ≡ (1, 1))
 

@@ -21,7 +21,7 @@ use Rattle.luks_c_answers.proofs.NumberFacts.{edit_number_memory, edit_number_ra
 use Rattle.luks_c_answers.proofs.PlanFacts.{given_or_room, planned_of, room_keeps}
 use Rattle.luks_c_answers.specs.Plans.{Buffers, IsPlan, IsPlanGiven, IsPlanned}
 
--- what holds of the device holds of the volume of which it was given ranges
+-- what holds of the device holds of the volume whose ranges it was given
 pub of_volume : (P : ℕ → List ℕ → ℕ → Type 0) (n total m : ℕ) (o w : List ℕ) → n ≡ total → o ≡ w → m ≡ total → P n o m → P total w total
 of_volume P n total m o w size target left holds = subst (λ k. P total w k) left (subst (λ t. P total t m) target (subst (λ k. P k o m) size holds))
 

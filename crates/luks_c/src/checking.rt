@@ -17,10 +17,10 @@ use std::marker::Brand;
 pub struct LuksReport {
     /// 1 or 2.
     pub version: u32,
-    /// Of LUKS2 how the copies of the header stand: 1 in step, 2 the first is newer, 3 the second is
-    /// newer, 4 only the first is sound, 5 only the second is. Of LUKS1 0.
+    /// LUKS2: how the two copies of the header compare: 1 they agree, 2 the first is newer, 3 the
+    /// second is newer, 4 only the first is sound, 5 only the second is. LUKS1: 0.
     pub copies: u32,
-    /// Of LUKS2 the sequence number of the copy that counts, of LUKS1 0.
+    /// LUKS2: the sequence number of the copy that counts. LUKS1: 0.
     pub seqid: u64,
     /// How many areas the volume has.
     pub areas: u64,

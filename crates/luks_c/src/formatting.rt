@@ -21,13 +21,13 @@ use luks_volume::{Format, FormatFault, HashName, NewDerivation, Passphrase};
 use std::alloc::Global;
 use std::marker::Brand;
 
-/// Plans a LUKS1 volume in the place of the one of `total` bytes of which these ranges are given, whose
-/// keyslot 0 opens by the passphrase; `luks_apply_bytes` says what a plan is.
+/// Plans a LUKS1 volume whose keyslot 0 opens by the passphrase. It replaces the volume of `total`
+/// bytes whose ranges are given; `luks_apply_bytes` says what a plan is.
 ///
-/// The payload begins at the `sector` of 512 bytes, or, where that is 2^64 - 1, where it does unless asked.
-/// With `is_keyed` the volume key is `key`. The uuid, the label and the subsystem are the texts that are given,
-/// where they have a byte; LUKS1 has neither of the last two. The hash is 1 for SHA-1, 2 for SHA-256, 3 for
-/// SHA-512. It takes 80 random bytes and 4000 for each byte of the volume key, and memory for the plan.
+/// The payload begins at the `sector` of 512 bytes, or at its usual place if that is 2^64 - 1. The volume key
+/// is `key` if `is_keyed`. The uuid, the label and the subsystem are the given texts; an empty one isn't given,
+/// and LUKS1 has neither of the last two. The hash is 1 for SHA-1, 2 for SHA-256, 3 for SHA-512. It takes 80
+/// random bytes and 4000 for each byte of the volume key, and memory for the plan.
 #[unsafe(no_mangle)]
 pub extern "C" fn luks_format1_bytes(
     alloc: Global,

@@ -12,7 +12,7 @@ use luks_formatting::{Given, NewCipher};
 /// The number that is no sector.
 const NO_SECTOR: u64 = 0xFFFF_FFFF_FFFF_FFFF;
 
-/// By what a volume that is made is encrypted.
+/// How a new volume is encrypted.
 #[repr(C)]
 #[derive(Clone, Copy, Drop)]
 pub struct LuksEncryption {

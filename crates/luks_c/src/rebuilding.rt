@@ -13,8 +13,8 @@ use std::marker::Brand;
 /// Plans a detached LUKS2 header of the metadata that is taken of the source, on the target. Of both ranges
 /// are given; `luks_apply_bytes` says what a plan is.
 ///
-/// With `is_second` the metadata is a second copy's, with a `size` that isn't 0 one of that size, and
-/// with either a header may count. The uuid has no byte where none is given. It takes 144 random
+/// If `is_second`, the metadata is a second copy's; if `size` isn't 0, it is that of a copy of this
+/// size. In both cases a header may count. The uuid is empty if none is given. It takes 144 random
 /// bytes. Takes memory for the plan, and for the metadata.
 #[unsafe(no_mangle)]
 pub extern "C" fn luks_rebuild2_bytes(

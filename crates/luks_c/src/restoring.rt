@@ -14,8 +14,8 @@ use std::marker::Brand;
 /// Plans the restoring of the backup, which is the source: its header and key areas at their places, on the
 /// volume. Of both ranges are given; `luks_apply_bytes` says what a plan is.
 ///
-/// With `is_over_any` another volume's header is written over too. Takes memory for the plan,
-/// and for the metadata of both.
+/// If `is_over_any`, another volume's header is overwritten too. Takes memory for the plan, and for
+/// the metadata of both.
 #[unsafe(no_mangle)]
 pub extern "C" fn luks_restore_bytes(
     alloc: Global,

@@ -39,15 +39,16 @@ pub struct LuksEdit {
     pub kind: u32,
     /// Of a change, a removal and a priority the keyslot.
     pub slot: u32,
-    /// The keyslot that the secret opens, of an addition; of a removal too, or 2^32 - 1 where it is
-    /// the one that is removed. By the volume key 2^32 - 1 says of both that no keyslot is asked for.
+    /// Addition: the keyslot that the secret opens. Removal: likewise, or 2^32 - 1 if it is the one
+    /// to remove. If the secret is the volume key, 2^32 - 1 says in both that no keyslot is asked
+    /// for.
     pub by_: u32,
-    /// Of an addition the number of the new keyslot, and of a token's that of the token, or 2^32 - 1 for
-    /// the least that is free; of a token that is removed its number. Of a priority 0 says that the
-    /// keyslot isn't tried where none is named, 1 that it is normal, and 2 that it is preferred.
+    /// Addition: the number of the new keyslot or token, or 2^32 - 1 for the lowest free one. Removal of
+    /// a token: its number. Priority: 0 if the keyslot isn't tried unless it is named, 1 if it is
+    /// normal, 2 if it is preferred.
     pub to: u32,
-    /// Of an addition and a change the iterations of the new keyslot's derivation by PBKDF2, at least 1000,
-    /// where none is chosen.
+    /// Addition and change: the iterations of the new keyslot's PBKDF2, at least 1000, if no derivation is
+    /// chosen.
     pub iterations: u32,
     /// How many KiB of memory Argon2 may take.
     pub memory: u32,
@@ -56,9 +57,9 @@ pub struct LuksEdit {
     pub older: u32,
     /// Whether the secret is the volume key, and not a keyslot's passphrase; 0: no.
     pub by_key: u32,
-    /// Of a label whether the subsystem is set with it; 0: it stays.
+    /// Label: whether the subsystem is set too; 0: it stays.
     pub subsystem: u32,
-    /// Of an addition and a change the new keyslot's derivation.
+    /// Addition and change: the new keyslot's derivation.
     pub derivation: LuksDerivation,
 }
 
@@ -71,7 +72,7 @@ pub struct Unasked;
 pub enum Asked<'a> {
     /// An edit.
     Edit(Edit<'a>),
-    /// To add a token, of which the text has still to be read.
+    /// Adds a token, whose text is still to be read.
     Token {
         /// Its number; where it isn't given, the least that is free.
         to: Option<u8>,

@@ -20,7 +20,7 @@ use Rattle.luks_contradictions.specs.Contradictions.{end_of, is_before, is_like,
 
 -- ---- what a segment tells
 
--- the extent of a segment, of which it tells one
+-- the extent of a segment, if it tells one
 abbrev extent_at : Data → Option Field
 extent_at d = option_and_then extent_of (text_of (member_at d outer.Top name.Size))
 

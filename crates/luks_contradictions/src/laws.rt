@@ -7,8 +7,8 @@ ghost use Rattle.luks_contradictions.specs.Contradicted.{AreWideSegments, contra
 
 use crate::contradiction::Contradiction;
 
-/// Of metadata whose segments have the members that they have to have: what is under way contradicts
-/// itself at no place exactly where it is consistent.
+/// If the segments of metadata have the members that they have to have, what is under way
+/// contradicts itself nowhere exactly if it is consistent.
 pub fn consistent_without_contradictions()
     ensures consistent { (j : Data) → AreWideSegments j → ((p : Contradiction) → contradicts j p ≡ false) → IsConsistent j }
     ensures nowhere { (j : Data) → AreWideSegments j → IsConsistent j → (p : Contradiction) → contradicts j p ≡ false }

@@ -46,7 +46,7 @@ fn is_marked(mark: Mark, segment: &Value) -> bool
     }
 }
 
-/// The segment with the number is there, and is so.
+/// Whether the segment with this number is there and has the mark.
 pub(crate) fn has_marked(mark: Mark, value: &Value, number: u8) -> bool
     requires { number < 32 }
     ensures { result ≡ has_marked mark (view value.now) number }
@@ -71,7 +71,7 @@ pub fn first_hot(value: &Value) -> Option<u8>
     None
 }
 
-/// How many segments are so.
+/// How many segments have the mark.
 pub(crate) fn count_marked(mark: Mark, value: &Value) -> u8
     ensures count { result ≡ count_marked mark (view value.now) }
     ensures few { result ≤ 32 }
@@ -85,7 +85,7 @@ pub(crate) fn count_marked(mark: Mark, value: &Value) -> u8
     count
 }
 
-/// Each of the first segments is so.
+/// Whether each of the first segments has the mark.
 pub(crate) fn all_marked(mark: Mark, value: &Value, count: u8) -> bool
     requires { count ≤ 32 }
     ensures { result ≡ all_below (has_marked mark (view value.now)) count }

@@ -37,7 +37,7 @@ pub struct Secret<'a> {
 pub enum SecretKind {
     /// The passphrase.
     Passphrase,
-    /// The volume key, as whoever has it from elsewhere gives it: the key material isn't read.
+    /// The volume key, from elsewhere: the key material isn't read.
     Key,
 }
 
@@ -139,8 +139,8 @@ pub enum Edit<'a> {
         /// The subsystem, of as many such bytes; where it isn't given, it stays as it was.
         subsystem: Option<&'a [u8]>,
     },
-    /// Sets the volume's uuid. Of the header nothing else changes that says something: no key area, and no
-    /// answer of a keyslot.
+    /// Sets the volume's uuid. No other content of the header changes, no key area, and no answer of a
+    /// keyslot.
     Uuid(NewUuid<'a>),
     /// LUKS2: changes the metadata in named members. Every key area, and what each keyslot answers,
     /// stays as it was.

@@ -16,11 +16,10 @@ use luks_reading::{Device, meets};
 use luks_slot::{Allowed, DigestPlan, Key, SlotFault, SlotPlan, open_within, refusal_within};
 use std::alloc::Global;
 
-/// The key that the secret gives by the plan of a keyslot, or None where it gives none: a passphrase
-/// opens it, and a key has to be its own. What refuses the keyslot to a passphrase does to a key, where
-/// so much is allowed.
+/// The key that the secret gives by the plan of a keyslot, or None if it gives none: a passphrase opens
+/// it, and a key has to be its own. A key is refused as a passphrase is, if so much is allowed.
 ///
-/// By a key no byte of the area is read, and no memory taken.
+/// A key reads no byte of the area and takes no memory.
 pub fn give_within<D: Device>(
     alloc: Global,
     device: &mut D,

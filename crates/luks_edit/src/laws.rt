@@ -9,8 +9,9 @@ ghost use Rattle.luks_edit.specs.Secrets.{AnswersTo};
 
 use crate::edit::SecretKind;
 
-/// A keyslot answers to a passphrase what opening it by that passphrase answers. To a secret it has one
-/// answer at most; a key that it answers with meets its digest, and by a key it is that key.
+/// A keyslot answers to a passphrase what opening it by that passphrase answers. It has at most one
+/// answer to a secret. A key that it answers with meets its digest; if the secret is a key, it is that
+/// key.
 pub fn secrets_answer_once()
     ensures passphrase { (allowed : TheAllowed) (v : List ℕ) (n : ℕ) (p : List ℕ) (a : Opened)
         → AnswersTo SecretKind.Passphrase allowed v n p a ↔ AnswerWithin allowed v n p a }

@@ -277,8 +277,8 @@ SparesEdit payload given v w = (w ≡ v) ⊎ IsSpared payload given v w
 
 -- ---- over devices
 
--- a volume that is there, tells its bytes and was well formed is so again, and nothing of it changed
--- that the edit doesn't name, unless a device call failed
+-- a volume that is there, tells its bytes and was well formed is well formed again, and nothing
+-- changed that the edit doesn't name, unless a device call failed
 abbrev pub KeepsUnnamed : {D : Type 0} → Type 0 → (D → ℕ) → (D → List ℕ) → Editing → Result D InputFault → Result D InputFault → Type 0
 KeepsUnnamed tells failed bytes editing (Ok old) (Ok new) = tells → WellFormed (bytes old) editing.payload → failed new ≡ failed old
     → Keeps editing.payload (NamesSlot editing.request (bytes old)) (bytes old) (bytes new)

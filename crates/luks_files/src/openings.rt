@@ -16,7 +16,7 @@ pub struct Opening<'a> {
 /// Which files a command line opens, each as what.
 #[derive(Clone, Copy)]
 pub struct Openings<'a> {
-    /// The volume, or its detached header. Beside a target it is only read.
+    /// The volume, or its detached header. It is only read if there is a target.
     pub volume: Opening<'a>,
     /// Which bytes of its file the volume is.
     pub place: Place,

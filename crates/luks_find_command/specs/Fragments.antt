@@ -56,7 +56,7 @@ pub record ListsStep (telling : Telling) (v : List ℕ) (old new : Listed) (held
   pub found : new.found ≡ old.found + more
   pub lists : ListsTo telling v old.at new.at more held holds
 
--- all of them were printed, which are so many
+-- all of them were printed, as many as were found
 pub record ListsAll (telling : Telling) (v : List ℕ) (found : ℕ) (held holds : Option (List ℕ)) : Type 0 where
   pub list : List Found
   pub all : AreFragmentsFrom v 0 list

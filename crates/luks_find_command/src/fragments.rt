@@ -152,7 +152,7 @@ fn status_of(last: Last) -> u8
 /// How far a search for fragments is.
 #[derive(Clone, Copy)]
 struct Listed {
-    /// From which place of the device on it goes on.
+    /// The place of the device from which it goes on.
     at: u64,
     /// How many were found before.
     found: u64,

@@ -8,9 +8,9 @@ use std::marker::PhantomData;
 
 /// The volume that begins at a place of a device and ends with it, as a device of its own.
 ///
-/// It is a window (`luks_window`) that takes all that follows. Beside what a window's type says, this
-/// one says that the length of the device behind stays, also of a device that tells no bytes: so what
-/// is only read through it leaves the device as it was.
+/// It is a window (`luks_window`) that takes all that follows. Its type also says that the length of
+/// the device behind stays, even if the device tells no bytes. So what is only read through it leaves
+/// the device as it was.
 #[derive(Drop)]
 pub(crate) struct VolumeAt<D: Device, K: Disk> {
     device: D,

@@ -109,7 +109,7 @@ fn text_signs<D: Device>(alloc: Global, device: &mut D, sector: u64) -> Result<T
     }
 }
 
-/// The start of the volume of which it is the metadata of the first copy, of `size` bytes.
+/// The start of the volume, if this is the metadata of its first copy, of `size` bytes.
 fn first_sign_of<D: Device>(
     alloc: Global,
     device: &mut D,

@@ -84,20 +84,20 @@ impl Finding {
         self.sectors = 1;
     }
 
-    /// Looks for the next sector of the device at which a header, a second copy or a JSON area begins,
-    /// in one block, and tells the starts whose first sign this is. It goes on behind that sector, or
-    /// behind the block where there is none. A start that a second copy tells lies before what was
-    /// looked at by then, at most 4 MiB and 4 KiB.
+    /// Looks in one block for the next sector of the device at which a header, a second copy or a JSON
+    /// area begins, and tells the starts whose first sign this is. It goes on after that sector, or
+    /// after the block if there is none. A start that a second copy tells is before what was looked at
+    /// by then, by at most 4 MiB and 4 KiB.
     ///
-    /// Behind such a sector a block has 4096 bytes, and each further one twice as many up to 1 MiB. So
-    /// the bytes that a whole search reads are at most twice those of the device, 4096 for each such
-    /// sector, and what a sign there asks for. Of a second copy these are its own bytes and 128 KiB, and
-    /// no more than 24 MiB where other places were made to look like signs of the same volume. Of a
-    /// JSON area they are 24 bytes, and the area in each of the nine sizes of which the last byte is a
-    /// zero: no more than 8 MiB, and 24 MiB more where it is whole. Memory is taken for one JSON area
-    /// and its metadata at a time, and only of an area that begins with a brace.
+    /// The block after such a sector has 4096 bytes, and each further one twice as many, up to 1 MiB. So
+    /// a whole search reads at most twice the bytes of the device, 4096 for each such sector, and what a
+    /// sign there asks for. A second copy asks for its own bytes and 128 KiB, and for no more than 24
+    /// MiB if other places were made to look like signs of the same volume. A JSON area asks for 24
+    /// bytes, and for the area in each of the nine sizes whose last byte is a zero: no more than 8 MiB,
+    /// and 24 MiB more if it is whole. Memory is taken for one JSON area and its metadata at a time, and
+    /// only if the area begins with a brace.
     ///
-    /// Where a device call fails or memory is refused the search stays where it was.
+    /// If a device call fails or memory is refused, the search stays where it was.
     pub fn step<D: Device>(&mut self, alloc: Global, device: &mut D) -> Result<Step, FindFault>
         requires { D.failed device.old + 1 < 2 ^ 64 }
         ensures unchanged { IsUnchanged D.tells D.size D.bytes D.unsettled device.old device.new }

@@ -58,11 +58,12 @@ pub(crate) fn begins_volume<D: Device>(device: &mut D, sector: u64) -> Result<bo
 
 /// The starts of the volumes whose first sign is at this sector.
 ///
-/// Of a second copy there it reads the copy, and where that is sound what may stand nearer to the
-/// start: the 8 bytes there, of each place of a copy the binary header, and the whole copy only where
-/// that is of the right form; of each place of metadata two bytes, and the whole JSON area only where
-/// they are a brace and a zero. Of a JSON area there it reads that area, of each of the nine sizes of
-/// which the last byte is a zero, and where it is whole the same before it.
+/// If a second copy is there, it reads the copy and, if that is sound, what may be nearer to the
+/// start. These are the 8 bytes at the start; the binary header at each place of a copy, and the
+/// whole copy only if that has the right form; and two bytes at each place of metadata, and the whole
+/// JSON area only if they are a brace and a zero. If a JSON area is there, it reads that area in each
+/// of the nine sizes whose last byte is a zero, and if it is whole, the places before it in the same
+/// way.
 pub(crate) fn told_at<D: Device>(
     alloc: Global,
     device: &mut D,

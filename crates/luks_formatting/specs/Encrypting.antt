@@ -1,4 +1,4 @@
--- By what a new volume is encrypted, its data and its key areas alike.
+-- The cipher of a new volume, of its data and its key areas alike.
 use Rattle.std.specs.Prelude.{ℕ, ◌+◌, ◌*◌, ◌/◌, Bool, true, false, List, ◌++◌, codes}
 use Rattle.luks_area.specs.Sectors.{rounded_to_sectors}
 use Rattle.luks_slot.specs.Ciphers.{cipher_named, is_size_of}

@@ -81,7 +81,7 @@ new_members given format random = record {
 abbrev pub first_slot_by : ℕ → Deriving → VolumeMembers → SlotMembers
 first_slot_by k d v = record (first_slot v) { key_size = k; size = block_bytes k; area_key_size = k; derivation = d }
 
--- the metadata, whose keyslot 0 has such a key and is so derived (LUKS2 On-Disk Format 1.1, 3)
+-- the metadata, whose keyslot 0 has such a key and this derivation (LUKS2 On-Disk Format 1.1, 3)
 abbrev pub formatted_by : ℕ → Deriving → VolumeMembers → Value
 formatted_by k d v = object (
     member (codes "config") config_value (

@@ -8,10 +8,10 @@ use std::fmt;
 /// All but the device's failure leave every byte as it was.
 #[derive(Debug, Clone, Copy, PartialEq, Eq, Drop)]
 pub enum FormatFault {
-    /// The payload that is given begins in the header or the key areas, or at a sector that the header can't
-    /// tell: of LUKS1 before sector 4036 or past 2^32 - 1, of LUKS2 before sector 32768 or past 2^55 - 1; of a
-    /// LUKS1 key of 32, 24 or 16 bytes before sector 2050, 1540 or 1029. On another device it may begin at any that
-    /// the header can tell.
+    /// The given payload begins in the header or the key areas, or at a sector that the header can't tell: for
+    /// LUKS1 before sector 4036 or past 2^32 - 1, for LUKS2 before sector 32768 or past 2^55 - 1; for a LUKS1 key
+    /// of 32, 24 or 16 bytes before sector 2050, 1540 or 1029. A payload on another device may begin at any sector
+    /// that the header can tell.
     Payload,
     /// The volume has fewer than 2097152 bytes, for LUKS2 16777216, or ends before the payload begins that is
     /// given.

@@ -57,9 +57,9 @@ const AREA_START: u64 = 4096;
 /// Makes a LUKS1 volume whose keyslot 0 opens by the passphrase to a volume key of 64 bytes. What
 /// stood there before is overwritten without question.
 ///
-/// Of the random bytes it takes those of the uuid (16), the volume key (64), the salt of its digest
-/// (32), the salt of keyslot 0 (32) and all stripes but the last (3999 of 64 bytes), in this order.
-/// `Memory` is never answered.
+/// It takes random bytes for the uuid (16), the volume key (64), the salt of its digest (32), the
+/// salt of keyslot 0 (32) and all stripes but the last (3999 of 64 bytes), in this order. It never
+/// answers `Memory`.
 ///
 /// The first sectors at 0 and at 16384, where an older LUKS2 header of the usual metadata size has its
 /// second copy, become zeros first, so that no older header counts there whose key areas are

@@ -42,10 +42,10 @@ pub fn format2_random(key_bytes: u32) -> u64
 /// Makes a LUKS2 volume whose keyslot 0 opens by the passphrase to a volume key of 64 bytes. What
 /// stood there before is overwritten without question.
 ///
-/// Of the random bytes it takes those of the uuid (16), the volume key (64), the salt of its digest
-/// (32), the salts of the first and the second copy of the header (64 each), the salt of keyslot 0
-/// (32) and all stripes but the last (3999 of 64 bytes), in this order. Takes memory for the metadata,
-/// before the first write.
+/// It takes random bytes for the uuid (16), the volume key (64), the salt of its digest (32), the
+/// salts of the first and the second copy of the header (64 each), the salt of keyslot 0 (32) and all
+/// stripes but the last (3999 of 64 bytes), in this order. Takes memory for the metadata, before the
+/// first write.
 ///
 /// The first sectors of both copies' places become zeros first, so that no older header counts there
 /// whose key areas are overwritten. Then the key area is written, then the second copy, then the
@@ -176,14 +176,14 @@ pub fn format2_by<D: Device>(
     format2_as(alloc, device, &given, format, chosen, passphrase, random)
 }
 
-/// Makes a volume for which something is given: where its payload begins, its key, its uuid, its label and
-/// its subsystem, its cipher with the key's length, the size of its sectors. If nothing is it is `format2_by`.
-/// A cipher of older disks is taken only where the passphrase's allowance says so, and opens wherever these are
+/// Makes a volume for which something is given: where its payload begins, its key, its uuid, its label and its
+/// subsystem, its cipher with the key's length, the size of its sectors. If nothing is, it is `format2_by`. A
+/// cipher of older disks is taken only if the passphrase's allowance says so, and opens wherever these are
 /// accepted.
 ///
-/// Of the random bytes there are `format2_random`, also those in whose place a key or a uuid is given: these aren't
-/// used. If the key has k bytes, each of the 3999 stripes has as many.
-/// What lies where the payload begins, and behind it, stays as it is.
+/// It takes `format2_random` random bytes, also those in whose place a key or a uuid is given; they aren't used. If
+/// the key has k bytes, each of the 3999 stripes has as many. Everything from the payload's begin on stays as it
+/// is.
 pub fn format2_as<D: Device>(
     alloc: Global,
     device: &mut D,

@@ -8,12 +8,12 @@ use crate::parts::{Part, find};
 use luks_area::{Device, DeviceFault};
 use std::marker::PhantomData;
 
-/// A volume of which ranges lie in memory, as a device that is only read.
+/// A volume whose ranges are in memory, as a device that is only read.
 ///
-/// It tells the bytes of the volume, of which those that aren't given may be any: each read fails that
-/// meets one of them, so that what is answered without a failure rests on the given bytes alone. A place
-/// that can't be read is one that isn't given. It keeps what the last failing read wanted. A write fails
-/// too; it leaves its first place unsettled for good, by which a contract sees that there was none.
+/// It tells the bytes of the volume. Those that aren't given may be any: a read that meets one of them
+/// fails, so an answer without a failure depends only on the given bytes. A place that can't be read
+/// counts as not given. It keeps what the last failing read wanted. A write fails too, and leaves its
+/// first place unsettled for good, by which a contract sees that there was none.
 #[derive(Drop)]
 pub struct GivenParts<'a, K: Given> {
     parts: &'a [Part],

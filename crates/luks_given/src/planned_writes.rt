@@ -25,13 +25,13 @@ pub struct PlannedCall {
     pub len: u64,
 }
 
-/// A volume of which ranges lie in memory, as a device of which nothing is written: it keeps the writes
-/// and flushes as a plan, in their order, and reads what the plan would leave, made anew for each read. Zeros
-/// that a write would leave at its end as they are aren't planned, sector by sector.
+/// A volume whose ranges are in memory, as a device to which nothing is written. It keeps the writes and
+/// flushes as a plan, in their order, and reads what the plan would leave, made anew for each read. It
+/// doesn't plan sectors at a write's end that are zeros already and stay zeros.
 ///
-/// It tells the bytes of the volume, of which those that aren't given may be any: each read or write fails
-/// that meets one of them. It keeps what the last such call wanted. A call fails also where there is no
-/// memory for the plan.
+/// It tells the bytes of the volume. Those that aren't given may be any: a read or write that meets one of
+/// them fails. It keeps what the last such call wanted. A call also fails if there is no memory for the
+/// plan.
 #[derive(Drop)]
 pub struct PlannedWrites<'a, K: Given> {
     parts: &'a [Part],

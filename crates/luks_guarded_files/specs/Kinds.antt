@@ -1,4 +1,4 @@
--- Of which kind a file is, and what holds something.
+-- The kind of a file, and what holds something.
 use Rattle.std.specs.Prelude.{◌≡◌, ◌≢◌, ◌⊎◌, ℕ, bit_and}
 use Rattle.luks_guarded_files.specs.declared.system.Found.{Found}
 use Rattle.luks_guarded_files.specs.declared.system.Kind.{Kind}

@@ -70,7 +70,7 @@ impl<D: Device> GuardedDevice<D> {
         self.changes != 0
     }
 
-    /// From now on `len` more bytes are known.
+    /// Notes that `len` more bytes are known.
     pub fn learn(&mut self, len: usize)
         requires { known_of self.old + len ≤ guarded_size self.old }
         ensures device { guarded_device self.new ≡ guarded_device self.old }

@@ -7,10 +7,10 @@ use std::fs::File;
 use std::io::{self, Read};
 use std::rt::Files;
 
-/// A file that is opened when it is first read, and stays open then. To open a pipe waits for its
-/// writer: so a command that ends before it reads the file doesn't wait, and finds no fault of it.
+/// A file that is opened when it is first read, and stays open then. Opening a pipe waits for its
+/// writer, so a command that ends before it reads the file doesn't wait, and finds no fault in it.
 ///
-/// Where it can't be opened, the read answers that error, and the next read tries again. It tells no
+/// If it can't be opened, the read answers that error, and the next read tries again. It tells no
 /// bytes, as no file does.
 #[derive(Drop)]
 pub struct LazyFile<'a, R: Files> {

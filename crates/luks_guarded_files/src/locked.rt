@@ -13,7 +13,7 @@ pub struct Lock {
     pub share: Share,
     /// Of the volume's file or device node.
     pub node: Answer,
-    /// Of the file that cryptsetup locks for a block device.
+    /// The name of the file that cryptsetup locks for a block device.
     pub name: Named,
 }
 

@@ -14,7 +14,7 @@ use std::os::unix::fs::MetadataExt;
 /// How a lock is held.
 #[derive(Clone, Copy, PartialEq, Eq)]
 pub enum Share {
-    /// With others that hold it so.
+    /// Together with others that hold it as shared.
     Shared,
     /// Alone.
     Exclusive,
@@ -65,7 +65,7 @@ impl Answers {
     }
 }
 
-/// Of which kind a file is.
+/// The kind of a file.
 #[derive(Clone, Copy, PartialEq, Eq)]
 pub enum Kind {
     /// A regular file.
@@ -118,7 +118,7 @@ pub struct Found {
     pub device: u64,
     /// The number of the user to whom it belongs.
     pub owner: u32,
-    /// The length of a regular file, in bytes. Of a block device it tells nothing.
+    /// The length of a regular file, in bytes. It says nothing of a block device.
     pub len: u64,
 }
 
@@ -162,14 +162,14 @@ impl Found {
     }
 }
 
-/// For what a file is opened.
+/// What a file is opened for.
 #[derive(Clone, Copy, PartialEq, Eq)]
 pub enum Access {
-    /// To be read.
+    /// For reading.
     Read,
-    /// To be read and written.
+    /// For reading and writing.
     Write,
-    /// To be read and written; it is made with mode 0600, and an error where it is there.
+    /// For reading and writing. The file is made with mode 0600; it is an error if it is there.
     Make,
 }
 

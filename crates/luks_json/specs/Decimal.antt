@@ -8,7 +8,7 @@ pub record IsDecimal (text : List ℕ) (n : ℕ) : Type 0 where
   pub fits : n < 2 ^ 64
   pub digits : text ≡ decimal n
 
--- the number that a text is so, if it is one
+-- the number that a text spells in this way, if it does
 unfoldable pub decimal_of : List ℕ → Option ℕ
 decimal_of text =
     if bytes_eq text (decimal (digits_value 10 text)) && nat_lt (digits_value 10 text) (2 ^ 64)

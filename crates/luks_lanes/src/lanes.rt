@@ -29,7 +29,7 @@ pub(crate) trait Lanes: Copy {
         requires { length block.now ≡ BLOCK }
         ensures { has_taken result block.now };
 
-    // The hash values that lie in a row. In a lane that the row has no value for is any.
+    // The hash values of a row. A lane for which the row has no value has any.
     fn load(row: &[u8]) -> Self
         ensures { (j : ℕ) → j < COUNT → j * LEN + LEN ≤ length row.now
             → bytes j result ≡ block_at LEN row.now j };

@@ -1,4 +1,4 @@
--- Of accepted metadata a digest names each keyslot.
+-- In accepted metadata, a digest names each keyslot.
 use Rattle.std.proofs.Common.{◌≡◌, ℕ, ◌<◌, true, false, List, Option, Some, None, Ordering, Less, Equal, Greater, nat_cmp, option_and_then, is_some, codes, refl, sym, ap, subst, ◌∙◌, inl, inr, arith}
 use Rattle.std.proofs.lemmas.Bool.{false≢true, and_parts, cases_Bool}
 use Rattle.std.proofs.lemmas.Cmp.{alike_right, nat_list_cmp_total, tied_itself}

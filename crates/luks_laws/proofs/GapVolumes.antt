@@ -1,4 +1,4 @@
--- Of a well formed LUKS2 volume the area of a new keyslot is there, or there is none.
+-- A new keyslot of a well formed LUKS2 volume has its area, or there is none.
 use Rattle.std.proofs.Common.{◌≡◌, ◌⊎◌, ℕ, ◌*◌, List, length, Some, refl, subst, inl, inr}
 use Rattle.serde_json.specs.Data.{Data as Value}
 use Rattle.luks_area.specs.declared.area.Area.{Area}

@@ -85,11 +85,11 @@ label_decided e = some_decided Rewritten (rewritten_by e) (λ r. sets_uuid_at_mo
 
 -- ---- random bytes
 
--- of a keyslot of a set of one the random bytes are so many
+-- the number of random bytes for the keyslot of a set of one
 need_like : (v : List ℕ) (is_new : ℕ → Type 0) (n : ℕ) → is_new n → ((m : ℕ) → is_new m → m ≡ n) → OneOrNone (NeedsFor v is_new)
 need_like v is_new n is only = inl (keyslot_need v n, record { slot = n; is = is; count = refl }, λ k x. x.count ∙ ap (keyslot_need v) (only x.slot x.is))
 
--- of the least free one they are so many, or none is free
+-- their number for the least free keyslot, or none is free
 need_of_free : (v : List ℕ) → OneOrNone (NeedsFor v (IsLeastFree v))
 need_of_free v = elim (least_free v) [
   | inl found ↦ need_like v (IsLeastFree v) found.0 found.1

@@ -139,7 +139,7 @@ bad_label_decided e = some_decided Rewritten (rewritten_by e) HasBadText (λ r. 
 
 -- ---- random bytes
 
--- of a keyslot that is made so the random bytes are so many, or its stripes aren't said
+-- the number of random bytes for a keyslot that is made like this, or its stripes aren't said
 need_like : (j : Value) (l : Like) → OneOrNone (λ k. NeedsLike j k l)
 need_like j l = elim (stripes_like_or_none j l) [
   | inl x ↦ inl (

@@ -1,4 +1,5 @@
--- Of the accepted metadata of a LUKS2 volume each fault stands by which the volume key gives none, or it doesn't.
+-- For a LUKS2 volume's accepted metadata: each fault for which the volume key gives no keyslot is there, or it
+-- isn't.
 use Rattle.std.proofs.Common.{◌≡◌, ℕ, List, length, Bool, Option, Some, None, refl, subst, inl, inr}
 use Rattle.serde_json.specs.Data.{Data as Value}
 use Rattle.luks_json.specs.AreaText.{Json}

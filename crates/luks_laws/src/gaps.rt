@@ -10,7 +10,7 @@ ghost use Rattle.luks2_edit_laws.specs.Metadata.{HasMetadata};
 ghost use Rattle.luks2_edit_laws.specs.Places.{HasNoNewArea, IsNewArea};
 ghost use Rattle.luks2_judging.specs.Keys.{IsThereLike};
 
-/// In a well formed LUKS2 volume a keyslot that is made like one that is there, or like that of a new volume,
+/// A keyslot of a well formed LUKS2 volume that is made like one that is there, or like that of a new volume,
 /// has its area, or there is no room for it.
 pub fn area_or_no_room()
     ensures { (v : List ℕ) (payload : Payload) (place : ℕ) (j : Metadata) (like : TheLike)

@@ -18,10 +18,10 @@ use std::alloc::{AllocError, Global};
 /// What a command line asks for.
 #[derive(Clone, Copy)]
 pub enum Asked<'a> {
-    /// To explain a fault, which is named as it is printed or by its name alone; without one to list
-    /// them all. No file is read for it.
+    /// Explains a fault, which is named as it is printed or only by its name; without one, lists
+    /// them all. It reads no file.
     Explain(Option<&'a str>),
-    /// To find the volumes of a disk, and how what is found is told.
+    /// Finds the volumes of a disk, and how what is found is told.
     Find(Search<'a>, Manner),
     /// A command on a volume, and how its answer is told.
     Volume(Line<'a>, Manner),

@@ -14,7 +14,7 @@ fn words_of<'a>(given: &ArgMatches<'a>) -> (&'a str, Option<&'a str>, Option<&'a
     )
 }
 
-/// In which form tokens are shown, where they are.
+/// The form in which tokens are shown, if they are.
 pub(crate) fn token_shown_of(given: &ArgMatches<'_>) -> Option<ShowAs> {
     match words_of(given) {
         ("list", None, None) => Some(ShowAs::Tokens),

@@ -364,8 +364,8 @@ fn tell_target<D: Device>(
     }
 }
 
-/// Notes what is in the place of a header that is so refused, or by which command it is read all the same. Of
-/// LUKS1 the bytes of the header alone are looked at, since what follows them may be older than it.
+/// Notes what is in the place of a header that is refused like this, or which command reads it all the same.
+/// For LUKS1 it looks only at the bytes of the header, since what follows them may be older.
 fn tell_instead<D: Device>(
     alloc: Global,
     device: &mut D,

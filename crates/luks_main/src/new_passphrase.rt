@@ -6,8 +6,7 @@ use luks_notes::note_new_passphrase;
 use luks_wiping::Secret;
 use std::io::{self, Write};
 
-/// Says at once why nobody types the new passphrase of this command at a prompt, where it is so: no volume is opened
-/// yet.
+/// If nobody can type the new passphrase of this command at a prompt, says at once why: no volume is opened yet.
 pub(crate) fn tell_new_passphrase<R: AllocGlobal + Eprint>(
     rt: &R,
     command: &Command<'_>,

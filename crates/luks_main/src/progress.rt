@@ -6,7 +6,7 @@ use std::fs::File;
 use std::io::Write;
 use std::rt::{Clock, Files};
 
-/// The shortest disk of which it is said, in bytes.
+/// The length in bytes from which on a disk's progress is shown.
 const LONG: u64 = 1 << 30;
 
 /// How far a search is and how fast, in one line of standard error that is written over: where that is a

@@ -30,7 +30,7 @@ use Rattle.luks_making.proofs.RowFacts.{array_beside, digest_array, digest_edite
 
 -- ---- the new keyslot meets the rules
 
--- its rows, of which those of the derivation are read
+-- its rows; those of the derivation are read
 pub slot_read : (s : SlotMembers) → FitsSlot s → IsRead keyslot_rows (slot_value s)
 slot_read s f =
     let kdf = made_read s.derivation s.salt f.derivation f.salt in

@@ -234,7 +234,7 @@ count_members : (list s : List ℕ) (f : Data → Data) (ms : Members) → Keeps
 count_members list s f no_members h = refl
 count_members list s f (member l d ms) h = counted_by (names s (get list (f d))) (names s (get list d)) _ _ (h d) (count_members list s f ms h)
 
--- as many members of a map name the text where each is so edited, and where one is
+-- as many members of a map name the text as before, if each is edited like this, or one is
 pub count_each : (list s : List ℕ) (f : Data → Data) (v : Option Data) → KeepsNaming list s f → naming_count list s (option_map (in_object (each_member f)) v) ≡ naming_count list s v
 count_each list s f (Some (object ms)) h = count_members list s f ms h
 count_each list s f d h = refl

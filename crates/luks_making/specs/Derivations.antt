@@ -7,7 +7,7 @@ use Rattle.luks_making.specs.declared.derivation.AskedDerivation.{AskedDerivatio
 use Rattle.luks_making.specs.declared.derivation.NewDerivation.{NewDerivation}
 use Rattle.luks_making.specs.declared.derivation.NewDerivation.TheVariants.{Pbkdf2, Argon2i, Argon2id}
 
--- how many KiB of memory a keyslot takes that is so derived
+-- how many KiB of memory a keyslot with this derivation takes
 abbrev pub memory_by : Deriving → ℕ
 memory_by (by_pbkdf2 hash iterations) = 0
 memory_by (by_argon2i costs) = costs.memory

@@ -1,4 +1,4 @@
--- In a value that is accepted, each array of names is a list of names.
+-- Each array of names in an accepted value is a list of names.
 use Rattle.std.proofs.Common.{◌≡◌, ℕ, true, false, List, ◌∷◌, Option, Some, None, Ordering, Less, Equal, Greater, option_map, option_and_then, is_some, is_eq, refl, sym, ap, ◌∙◌}
 use Rattle.std.proofs.lemmas.Bool.{false≢true, and_parts, and_from}
 use Rattle.std.proofs.lemmas.Map.Text.{is_eq-slice_cmp}

@@ -7,10 +7,10 @@ ghost use Rattle.luks_making.specs.Keyslots.{NewMembers, SlotMembers};
 ghost use Rattle.luks_making.specs.Unchanged.{ChangesSlot, GainsSlot, KeepsRest, KeepsUnnamed, LosesSlot, LosesSlots, SetsPriority};
 ghost use Rattle.luks_new_meta.specs.Records.{GainsNumber, KeepsButPriority, KeepsNumbers, KeepsRecords, KeepsTold, LosesNumber, LosesNumbers};
 
-/// Of what an edit of a keyslot doesn't name the readers tell the same records; of a digest or
-/// token that it names they tell the same except for its keyslots, which lose or gain that one. Of a keyslot
-/// whose priority is set they tell the same except for that. If no keyslot is left they tell none, and none
-/// that a digest or token names.
+/// The readers tell the same records of what an edit of a keyslot doesn't name. A digest or token that it
+/// names keeps its record except for its keyslots, which lose or gain that one. A keyslot whose priority is
+/// set keeps its record except for the priority. If no keyslot is left, they tell none, and none that a
+/// digest or token names.
 pub fn edits_keep_records()
     ensures rest { (n : ℕ) (old new : Data) → KeepsRest n old new → KeepsRecords n old new }
     ensures removed { (n : ℕ) (old new : Data) → LosesSlot n old new → LosesNumber n old new }

@@ -12,7 +12,7 @@ looked_for =
     SecondCopy 0x4000 ∷ SecondCopy 0x8000 ∷ SecondCopy 0x10000 ∷ SecondCopy 0x20000 ∷ SecondCopy 0x40000 ∷ SecondCopy 0x80000
     ∷ SecondCopy 0x100000 ∷ SecondCopy 0x200000 ∷ SecondCopy 0x400000 ∷ Ext ∷ Swap ∷ []
 
--- of the members of a list those of which P holds, and no other, in their order
+-- the members of a list of which P holds, and no others, in their order
 pub data AreThose {A : Type 0} (P : A → Type 0) : List A → List A → Type 0 where
   ended : AreThose P [] []
   taken : {x : A} {all those : List A} → P x → AreThose P all those → AreThose P (x ∷ all) (x ∷ those)

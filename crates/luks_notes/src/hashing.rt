@@ -19,7 +19,7 @@ pub struct Hashing {
 }
 
 impl Hashing {
-    /// Of a command that has searched for nothing.
+    /// For a command that has searched for nothing.
     pub fn new() -> Hashing
         ensures of_command { IsOfCommand result }
         ensures none { result.hashed ≡ 0 }
@@ -30,8 +30,8 @@ impl Hashing {
         }
     }
 
-    /// Of a command that has searched once itself, with this effort. What `--thorough` asks for beyond a usual
-    /// search isn't counted.
+    /// For a command that has searched once itself, with this effort. What `--thorough` asks for beyond a
+    /// usual search isn't counted.
     pub fn after(effort: Effort) -> Hashing
         ensures of_command { IsOfCommand result }
         ensures own { result.hashed ≡ own effort }

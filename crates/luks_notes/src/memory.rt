@@ -28,7 +28,7 @@ pub struct MemoryNote {
     is_tried: bool,
 }
 
-/// By what a keyslot derives, as it is said.
+/// A keyslot's derivation, as it is printed.
 #[derive(Clone, Copy)]
 struct Derived {
     /// The keyslot.
@@ -69,7 +69,7 @@ impl MemoryNote {
         (u64::from(self.kib) + 1023) / 1024
     }
 
-    /// By what it derives.
+    /// Its derivation.
     fn derived(&self) -> Derived
         ensures { result ≡ derived_of self.now }
     {

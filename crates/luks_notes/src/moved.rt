@@ -14,9 +14,9 @@ const NEW_PLACE: u64 = 32768;
 /// How many bytes of both are compared.
 const PART: usize = 512;
 
-/// Says to `err` of the volume of this name, which has an accepted LUKS1 header and which no passphrase has
-/// opened, that `cryptsetup convert` has moved its key areas and broke off, where it is so. If that can't be
-/// read it says nothing.
+/// Says to `err` if `cryptsetup convert` has moved the key areas of the volume of this name and broke off.
+/// The volume has an accepted LUKS1 header, and no passphrase has opened it. If that can't be read, it says
+/// nothing.
 pub fn note_moved_areas<D: Device, E: Write>(device: &mut D, volume: &str, err: &mut E)
     requires { D.failed device.old + 1 < 2 ^ 64 }
     ensures { IsUnchanged D.tells D.size D.bytes D.unsettled device.old device.new }

@@ -78,7 +78,7 @@ fn note_wiping<E: Write>(volume: &str, begins: u64, err: &mut E) -> io::Result<(
     writeln!(err, "luks: {volume}: {wiping}")
 }
 
-/// By what it is taken away, on a volume that begins at this byte of its file.
+/// The command that removes it, on a volume that begins at this byte of its file.
 #[derive(Clone, Copy)]
 struct Wiping {
     begins: u64,

@@ -7,8 +7,7 @@ use luks_area::{Device, DeviceFault};
 use luks2_header::Bin2;
 use std::io::Write;
 
-/// The bytes of a binary header. In those of a LUKS1 header the version and the uuid are at the same
-/// places.
+/// The bytes of a binary header. A LUKS1 header has the version and the uuid at the same places.
 const HEADER: usize = 4096;
 
 /// Says to `err` that the metadata is of an older volume, and with which uuid: where it is a second

@@ -64,9 +64,9 @@ impl OlderNote {
     }
 }
 
-/// What is noted of the keyslot `n` of a volume of `total` bytes where so much is allowed: that it would be
-/// tried if ciphers and hashes of older disks were accepted, and isn't without, whatever memory is allowed.
-/// None where that isn't so, or they are accepted.
+/// What is noted of the keyslot `n` of a volume of `total` bytes if so much is allowed: it would be tried
+/// if ciphers and hashes of older disks were accepted, and isn't otherwise, whatever memory is allowed.
+/// None if it wouldn't be, or if they are accepted.
 pub fn older_note(header: &Header, n: u8, total: u64, allowed: Allowed) -> Option<OlderNote>
     requires { IsAcceptedHeader header.now }
     ensures asked { IfSome result (λ _. allowed.older ≡ false) }

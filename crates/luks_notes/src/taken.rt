@@ -100,7 +100,7 @@ fn of_size(copies: Copies, size: u64) -> Copies {
     }
 }
 
-/// The place of the copy of which it is: that whose checksum vouches for it, else the first that is whole.
+/// The place of its copy: the copy whose checksum vouches for it, else the first that is whole.
 fn place_of<S: Device>(
     alloc: Global,
     source: &mut S,

@@ -8,7 +8,7 @@ use luks_meta::Meta;
 use luks_reading::Header;
 use std::io::{self, Write};
 
-/// Says of the keyslot `n`, which a passphrase has opened, that its key is of no segment, where it is so.
+/// Says of the keyslot `n`, which a passphrase has opened, if no segment has its key.
 pub fn note_unbound<E: Write>(header: &Header, n: u8, err: &mut E) -> io::Result<()>
     ensures said { IsUnbound header.now n → OnOk result
         (Appends (E.contents err.old) (E.contents err.new) (unbound_line n)) }

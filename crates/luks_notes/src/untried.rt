@@ -49,7 +49,7 @@ fn say_why<E: Write>(copy: &str, why: &str, err: &mut E) {
     );
 }
 
-/// What is said of it. With the least effort second copies are sought, or those of one size.
+/// What is said of it. The least effort looks for second copies, or those of one size.
 fn why_untried(effort: Effort) -> &'static str {
     match effort {
         Effort::Brief => "luks rebuild --second tries more",

@@ -55,8 +55,8 @@ fn last_bytes(passphrase: &[u8], count: usize) -> &[u8]
     &passphrase[start..]
 }
 
-/// Says to `err` of a new passphrase why nobody types it at a prompt, where it is so. By the option of this name
-/// the first line of its file is taken alone.
+/// If nobody can type a new passphrase at a prompt, says to `err` why. The option of this name takes only the
+/// first line of its file.
 pub fn note_new_passphrase<E: Write>(
     passphrase: &[u8],
     line_option: &str,
@@ -105,7 +105,7 @@ fn say_newline<E: Write>(line_option: &str, err: &mut E) -> io::Result<()>
     )
 }
 
-/// By which option the first line alone of a file is taken.
+/// The option that takes only the first line of a file.
 #[derive(Clone, Copy)]
 struct LineAlone<'a> {
     line_option: &'a str,
@@ -123,8 +123,7 @@ impl fmt::Display for LineAlone<'_> {
     }
 }
 
-/// Says to `err` of a passphrase that opened nothing that it is empty, or what of its file's end was taken as part
-/// of it, where it is so.
+/// Says to `err` if a passphrase that opened nothing is empty, or what of its file's end was taken as part of it.
 pub fn note_tried_passphrase<E: Write>(passphrase: &[u8], err: &mut E) -> io::Result<()>
     ensures said { (found : Untypable) → IsUntypable passphrase.now found → OnOk result
         (Appends (E.contents err.old) (E.contents err.new) (tried_line found)) }

@@ -22,7 +22,7 @@ pub(crate) struct Segment {
     pub(crate) at: Option<u64>,
 }
 
-/// The segment that is given, if one is, and else that which was seen at the spot.
+/// The given segment, if there is one, else the one that was seen at the spot.
 pub(crate) fn segment_of<D: Device>(
     alloc: Global,
     source: &mut D,

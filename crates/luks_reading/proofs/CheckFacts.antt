@@ -1,4 +1,4 @@
--- From what was judged of a header to what holds of the volume.
+-- What was judged of a header says what holds of the volume.
 use Rattle.std.proofs.Common.{◌≡◌, ℕ, List, length, subst, sym, arith, inl, inr}
 use Rattle.std.specs.Prelude.{Result, Ok, Err, IfErr, MatchResult, OnOk, ⊤}
 use Rattle.luks_area.specs.declared.areas.Entry.{Entry}

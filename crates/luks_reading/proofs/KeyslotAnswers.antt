@@ -1,4 +1,4 @@
--- From what counts of a volume to the volume.
+-- What counts of a volume says what holds of the volume.
 use Rattle.std.proofs.Common.{◌≡◌, ℕ, List, [], ◌∷◌, length, refl, subst, sym, ◌∙◌, arith, Option, Some, None}
 use Rattle.luks_area.specs.First.{NotAfter, IsLeast}
 use Rattle.luks_area.specs.Ranges.{part}

@@ -1,4 +1,4 @@
--- From a list of areas to the set that it lists, and what a set that fits rules out.
+-- The set of areas that a list lists, and what a set that fits rules out.
 use Rattle.std.proofs.Common.{◌≡◌, ℕ, ◌<◌, List, arith, ap}
 use Rattle.luks_area.specs.declared.area.Area.{Area}
 use Rattle.luks_area.specs.declared.area.AreaName.{AreaName}

@@ -1,4 +1,4 @@
--- From what counts of a volume to the volume: which fault locks it, and which keyslot opens first.
+-- What counts of a volume says which fault locks the volume, and which keyslot opens first.
 use Rattle.std.proofs.Common.{◌≡◌, ◌≢◌, ℕ, List, ◌++◌, Option, Some, None, Result, Ok, Err, IfOk, refl, subst, sym, ◌∙◌}
 use Rattle.serde_json.specs.Data.{Data}
 use Rattle.luks_area.specs.First.{NotAfter, IsLeast}

@@ -1,5 +1,5 @@
--- By which digest a volume key is told, and how many bytes it has (LUKS1 On-Disk Format 1.2.3, "The partition
--- header"; LUKS2 On-Disk Format 1.1, 3.4 and 3.5).
+-- The digest that tells a volume key, and how many bytes the key has (LUKS1 On-Disk Format 1.2.3, "The
+-- partition header"; LUKS2 On-Disk Format 1.1, 3.4 and 3.5).
 use Rattle.std.specs.Prelude.{◌≡◌, ◌⊎◌, ℕ, ◌<◌, ◌≤◌, ◌==◌, List, Option, Some, None, true}
 use Rattle.std.specs.List.{list_any}
 use Rattle.serde_json.specs.Data.{Data}

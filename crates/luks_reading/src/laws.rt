@@ -29,8 +29,8 @@ pub fn no_fault_is_well_formed()
         → WellFormed v payload ↔ ((f : CheckFault) → IsFault v payload f → ⊥) }
 {}
 
-/// In a well formed volume each area is inside, every two of different names are disjoint, and of
-/// LUKS2 every name in the metadata resolves.
+/// Each area of a well formed volume is inside, every two with different names are disjoint, and
+/// for LUKS2 every name in the metadata resolves.
 pub fn well_formed_volume()
     ensures { (v : List ℕ) (payload : Payload) → WellFormed v payload → FitsAndResolves v payload }
 {}

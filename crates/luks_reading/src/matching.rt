@@ -25,7 +25,7 @@ use luks_meta::{Digest, Meta};
 use luks_slot::DigestPlan;
 use std::alloc::Global;
 
-/// By which digest a key was judged, and whether it meets it.
+/// The digest that judged a key, and whether the key meets it.
 #[derive(Debug, Clone, Copy, PartialEq, Eq)]
 pub struct KeyMatch {
     /// The number of the digest; that of LUKS1 is 0.

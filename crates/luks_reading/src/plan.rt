@@ -44,7 +44,7 @@ pub fn luks1_plan<'a>(common: &'a Luks1Common, slot: &'a Luks1Slot) -> SlotPlan<
     }
 }
 
-/// By what the volume key of a LUKS1 header is told.
+/// The plan of the digest that tells the volume key of a LUKS1 header.
 pub fn luks1_digest(common: &Luks1Common) -> DigestPlan<'_>
     ensures is { (h : List ℕ) → IsCommon h common.now → IsLuks1Digest h result }
     ensures turns { (h : List ℕ) → IsCommon h common.now → 1 ≤ result.iterations }
@@ -92,7 +92,7 @@ pub fn luks2_plan<'a>(keyslot: &'a Keyslot<'a>, digest: &'a Digest<'a>) -> SlotP
     }
 }
 
-/// By what a volume key of LUKS2 is told (LUKS2 On-Disk Format 1.1, 3.4).
+/// The plan of a digest that tells a volume key of LUKS2 (LUKS2 On-Disk Format 1.1, 3.4).
 pub fn luks2_digest<'a>(digest: &'a Digest<'a>) -> DigestPlan<'a>
     ensures says { (object : Data) → TellsDigest object digest.now → SaysDigest object result }
     ensures turns { (object : Data) → TellsDigest object digest.now → 1 ≤ result.iterations }

@@ -15,8 +15,8 @@ use crate::plan::{luks1_plan, luks2_plan};
 use luks_meta::Meta;
 use luks_slot::{Allowed, SlotPlan, refusal_within};
 
-/// By what `open_header_slot` refuses the keyslot `n` of a volume of `total` bytes with this header
-/// where so much is allowed, or None where it tries the passphrase. It takes no memory.
+/// The fault for which `open_header_slot` refuses the keyslot `n` of a volume of `total` bytes with
+/// this header if so much is allowed, or None if it tries the passphrase. It takes no memory.
 pub fn refused_slot(header: &Header, n: u8, total: u64, allowed: Allowed) -> Option<OpenFault>
     requires accepted { IsAcceptedHeader header.now }
     ensures { (v : List ℕ) → IsHeader v header.now → length v ≡ total
@@ -28,8 +28,8 @@ pub fn refused_slot(header: &Header, n: u8, total: u64, allowed: Allowed) -> Opt
     }
 }
 
-/// By what a LUKS1 header, these 592 bytes, refuses the keyslot `n` in a volume of `total` bytes, where
-/// older ciphers and hashes are allowed, or not.
+/// The fault for which a LUKS1 header, these 592 bytes, refuses the keyslot `n` in a volume of `total`
+/// bytes. `older` says whether older ciphers and hashes are allowed.
 fn luks1_refusal(header: &[u8], n: u8, total: u64, older: bool) -> Option<OpenFault>
     requires { length header.now ≡ 592 }
     ensures { FirstRefusal (IsLuks1Refusal older header.now total n) result }
@@ -48,7 +48,8 @@ fn luks1_refusal(header: &[u8], n: u8, total: u64, older: bool) -> Option<OpenFa
     }
 }
 
-/// By what this metadata refuses the keyslot `n` in a volume of `total` bytes, where so much is allowed.
+/// The fault for which this metadata refuses the keyslot `n` in a volume of `total` bytes if so much is
+/// allowed.
 fn luks2_refusal(meta: &Meta, n: u8, total: u64, allowed: Allowed) -> Option<OpenFault>
     requires { IsAccepted (content meta.now) }
     ensures { (b json : List ℕ) → IsCleared (uuid_field b) json (content meta.now)
@@ -65,8 +66,8 @@ fn luks2_refusal(meta: &Meta, n: u8, total: u64, allowed: Allowed) -> Option<Ope
     plan_refusal(&luks2_plan(&keyslot, &digest), total, allowed)
 }
 
-/// By what the plan is refused in a volume of `total` bytes: its area isn't inside, or it is refused
-/// itself where so much is allowed.
+/// The fault for which the plan is refused in a volume of `total` bytes: its area isn't inside, or
+/// the plan itself is refused if so much is allowed.
 fn plan_refusal(plan: &SlotPlan<'_>, total: u64, allowed: Allowed) -> Option<OpenFault>
     ensures refused { IfSome result (IsPlanRefusal allowed plan.now total) }
     ensures accepted { IsNone result → IsPlanAccepted allowed plan.now total }

@@ -1,4 +1,4 @@
--- Of what a header is made: which source is the first, and that there is one.
+-- What a header is made from: which source is the first, and that there is one.
 use Rattle.std.proofs.Common.{◌≡◌, ◌≢◌, ℕ, ◌-◌, ◌≤◌, ◌⊎◌, ◌==◌, List, [], ◌∷◌, get_or, drop, Bool, true, false, if◌then◌else◌, inl, inr, arith, refl, sym, ap, ◌∙◌, subst, None, is_some}
 use Rattle.std.proofs.lemmas.Bool.{cases_Bool, eqb-true}
 use Rattle.luks_area.specs.First.{IsLeast, NotAfter}

@@ -103,7 +103,7 @@ standing_key x = (0xFFFF_FFFF_FFFF_FFFF - x.seqid) ∷ place_key x.place
 abbrev pub standing : List ℕ → Place → Standing
 standing v place = record { place = place; seqid = seqid (header_at v place.at) }
 
--- the one with this number, if there are so many
+-- the copy with this number, if the list is long enough
 abbrev pub copy_at : List Standing → ℕ → Standing
 copy_at xs n = get_or xs n (record { place = record { size = 0; at = 0 }; seqid = 0 })
 

@@ -79,7 +79,7 @@ pub record HasRebuiltCopy (w uuid salt : List ℕ) (source : Source) (o : ℕ) :
 abbrev pub IsOfHeader : Source → ℕ → Type 0
 IsOfHeader source = IsOfEither (IsAt 0 (2 * source.size)) (IsOfKeyArea source)
 
--- it is so for the candidate that is taken
+-- the byte place is of the candidate that is taken
 abbrev pub IsOfRebuilt : List ℕ → Which → ℕ → Type 0
 IsOfRebuilt v which p = OfTaken v which (λ source. IsOfHeader source p)
 
@@ -110,7 +110,7 @@ abbrev pub FirstIsLast : List ℕ → Option (List ℕ) → List ℕ → List �
 FirstIsLast v given random old new source =
     ClearsFirst source.size (HasKeyAreas v source new) (HasAllButFirst v given random new source) old new
 
--- what may be left at any time: nothing has changed, or it is so for the candidate that is taken
+-- what may be left at any time: nothing has changed, or the candidate that is taken is written, its first sectors last
 abbrev pub WritesFirstLast : List ℕ → Which → Option (List ℕ) → List ℕ → List ℕ → List ℕ → Type 0
 WritesFirstLast v which given random old new =
     (new ≡ old) ⊎ OfTaken v which (FirstIsLast v given random old new)

@@ -1,4 +1,4 @@
--- Of which copies not all is tried that their checksums may vouch for.
+-- The copies for which not everything was tried that their checksums may vouch for.
 use Rattle.std.specs.Prelude.{ℕ, List, Option, Some, None}
 use Rattle.luks_vouching.specs.Vouched.{IsCutShortAt}
 use Rattle.luks_rebuilding.specs.Candidates.{IsAsked}

@@ -16,7 +16,7 @@ pub struct Place {
 /// Which metadata is sought.
 #[derive(Clone, Copy, PartialEq, Eq)]
 pub struct Which {
-    /// Of which copies it may be.
+    /// The copies whose metadata it may be.
     pub copies: Copies,
     /// How much may be hashed for it.
     pub effort: Effort,

@@ -1,4 +1,4 @@
--- Of which version the header is that a command line asks to rebuild.
+-- The version of the header that a command line asks to rebuild.
 use Rattle.std.specs.Prelude.{Bool, ◌||◌, ◌&&◌, not, is_some, if◌then◌else◌}
 use Rattle.luks_request.specs.declared.rebuilding.Luks1Fields.{Luks1Fields}
 use Rattle.luks_request.specs.declared.rebuilding.Meant.{Meant}

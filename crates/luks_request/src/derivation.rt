@@ -15,7 +15,7 @@ pub enum AskedKdf {
 /// Argon2 that is asked for, by its costs.
 #[derive(Debug, Clone, Copy)]
 pub struct AskedArgon2 {
-    /// Of which kind it is.
+    /// Its kind.
     pub kind: AskedKind,
     /// How many passes it makes over the memory.
     pub passes: u32,

@@ -47,19 +47,19 @@ pub struct Luks1Fields<'a> {
     pub payload: Option<u32>,
 }
 
-/// Of which version the header is that is meant.
+/// The version of the header that is meant.
 #[derive(Debug, Clone, Copy)]
 pub enum Meant {
     /// LUKS1: a field that it alone has is given, or a passphrase without a search, which is tried on it alone.
     Luks1,
     /// LUKS2: the size of a data sector is given, or a copy is named by its place or its size.
     Luks2,
-    /// Either: what stands says which.
+    /// Either: what is there says which.
     Either,
 }
 
 impl Rebuilding<'_> {
-    /// Of which version the header is that is meant.
+    /// The version of the header that is meant.
     pub fn meant(&self) -> Meant
         ensures { result ≡ meant_by self.now }
     {

@@ -15,7 +15,7 @@ use luks_reading::{Data, Format};
 pub struct Line<'a> {
     /// The file of the volume, or of its detached header.
     pub volume: &'a str,
-    /// Which bytes of that file are the volume. Of `convert` and `rebuild` it is the source's; the
+    /// Which bytes of that file are the volume. For `convert` and `rebuild` it is the source's; the
     /// target begins at its file's first byte.
     pub place: Place,
     /// What is done with the volume.
@@ -77,7 +77,7 @@ pub struct Matching<'a> {
     pub older: bool,
 }
 
-/// In which form a header is shown.
+/// The form in which a header is shown.
 #[derive(Debug, Clone, Copy)]
 pub enum ShowAs {
     /// Line by line, for who reads them.

@@ -1,4 +1,4 @@
--- In a value that is accepted no test finds a fault.
+-- No test finds a fault in a value that is accepted.
 use Rattle.std.proofs.Common.{◌≡◌, ℕ, ◌+◌, ◌*◌, ◌<◌, Bool, true, false, ◌&&◌, List, [], ◌∷◌, Option, Some, None, cond, refl, eq-eqb, inl, inr, ◌⊎◌}
 use Rattle.std.specs.Prelude.{◌||◌, not, option_map, option_and_then, is_some, codes}
 use Rattle.std.specs.Option.{option_map_or}

@@ -125,7 +125,7 @@ number_order : (s : Section) (m n : ℕ) (x y : Option Row) → strictly (number
     → NotAfter (place_path (place s (Some m) x)) (place_path (place s (Some n) y))
 number_order s m n x y h = after_prefix (section_name s) _ _ (omega arith, λ _. before (number_text m) (number_text n) _ _ h (tail_of x))
 
--- a place of an object is so
+-- a place of an object has this form
 object_place : (s : Section) (n : ℕ) (q : Place) → IsOfObject s n q → (x : Option Row) × (q ≡ place s (Some n) x)
 object_place s n q m = elim m [ inl at ↦ (None, at) | inr k ↦ (Some k.0, k.1.0) ]
 

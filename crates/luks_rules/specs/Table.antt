@@ -23,7 +23,7 @@ member n r = record { outer = outer.Top; name = n; rule = r; when = when.Always 
 abbrev pub inside : Outer → Member → Rule → Row
 inside o n r = record { outer = o; name = n; rule = r; when = when.Always }
 
--- judged where the type of the object that it is in is so
+-- judged if the object that it is in has this type
 abbrev pub only : When → Row → Row
 only w r = record r { when = w }
 

@@ -25,9 +25,9 @@ pub(crate) struct Sought<'a> {
     ghost long: { length header.now ≡ luks1_size },
 }
 
-/// In how many bits the digest differs by which the keyslot `n` would open, of the header that is made of
-/// these bytes: 0 where it opens, None where it isn't kept, isn't in use, is refused, or would take too
-/// long. It is counted before it is tried.
+/// The number of bits in which the digest differs from one by which the keyslot `n` would open, in the
+/// header that is made of these bytes: 0 if it opens, None if it isn't kept, isn't in use, is refused, or
+/// would take too long. It is counted before it is tried.
 pub(crate) fn distance<D: Device, P: Progress>(
     alloc: Global,
     source: &mut D,

@@ -123,7 +123,7 @@ pub still_allowed : (allowed more : ℕ) (d : Derivation) → allowed ≤ more �
 still_allowed allowed more (Pbkdf2 h i s) le is = refl
 still_allowed allowed more (Argon2 a) le is = still_within allowed more a.memory a.cpus (length a.salt.now) le is
 
--- a cipher, and a hash, that is accepted is so with older ones
+-- a cipher or a hash that is accepted is also accepted with older ones
 pub cipher_still : (older more : Bool) (c : AreaCipher) → (older ≡ true → more ≡ true) → is_allowed_cipher older c ≡ true → is_allowed_cipher more c ≡ true
 cipher_still false false c more_too is = is
 cipher_still false true c more_too is = or_left (is_open_cipher c) (is_some (older_ivs c)) is

@@ -1,5 +1,5 @@
--- In how many bits what a key gives differs from the stored digest, and what trying a passphrase on a
--- keyslot comes to.
+-- The number of bits in which what a key gives differs from the stored digest, and what trying a
+-- passphrase on a keyslot comes to.
 use Rattle.std.specs.Prelude.{◌≡◌, ℕ, ◌≤◌, List, length, Option, Some, None, count_ones, sum_by}
 use Rattle.luks_kdf.specs.Xor.{xor_bytes}
 use Rattle.luks_slot.specs.declared.opening.Tried.{Tried}

@@ -103,8 +103,8 @@ fn variant_of(kind: Argon2Kind) -> Variant
     }
 }
 
-// In how many bits what the key gives differs from the stored digest. All bytes are compared, whatever
-// the first of them are.
+// The number of bits in which what the key gives differs from the stored digest. All bytes are
+// compared, whatever the first of them are.
 pub(crate) fn digest_distance(digest: &DigestPlan<'_>, hash: KeyslotHash, key: &[u8]) -> u32
     requires hash { hash_by_name digest.now.hash.now ≡ hash }
     requires iterations { 1 ≤ digest.now.iterations }
@@ -161,7 +161,7 @@ fn held(bytes: &[u8]) -> ArrayVec<u8, 64>
     held
 }
 
-// In how many bits the two differ, with room for what is to be compared.
+// The number of bits in which the two differ, with room for what is to be compared.
 fn distance_in(room: &mut [u8], digest: &DigestPlan<'_>, hash: KeyslotHash, key: &[u8]) -> u32
     requires hash { hash_by_name digest.now.hash.now ≡ hash }
     requires iterations { 1 ≤ digest.now.iterations }

@@ -56,7 +56,7 @@ pub enum AreaCipher<'a> {
     Whole(&'a str),
 }
 
-/// By what a volume key is known to be the right one: PBKDF2 of it.
+/// What tells that a volume key is the right one: PBKDF2 of it.
 #[derive(Clone, Copy)]
 pub struct DigestPlan<'a> {
     /// The hash's name, as the header writes it.

@@ -21,8 +21,8 @@ const MOST_TURNS: u32 = 1 << 26;
 /// Nor is a keyslot of more stripes.
 const MOST_STRIPES: u32 = 1 << 16;
 
-/// In how many bits the digest differs by which a keyslot of this plan would open: 0 where it opens, None
-/// where it is refused or would take too long. It is counted before it is tried.
+/// The number of bits in which the digest differs from one by which a keyslot of this plan would open: 0
+/// if it opens, None if it is refused or would take too long. It is counted before it is tried.
 pub fn try_plan<D: Device, P: Progress>(
     alloc: Global,
     source: &mut D,
@@ -115,7 +115,7 @@ fn is_cheap_derivation(derivation: &Derivation<'_>) -> bool
     }
 }
 
-/// In how many bits the digest differs; a keyslot that is refused isn't tried.
+/// The number of bits in which the digest differs. A keyslot that is refused isn't tried.
 fn distance_of(tried: Result<Tried, SlotFault>) -> Result<Option<u32>, SearchFault>
     ensures { IsDistance tried result }
 {

@@ -16,7 +16,7 @@ use luks_reading::luks2_plan;
 use luks_slot::Allowed;
 use std::alloc::Global;
 
-/// By what keyslots are tried.
+/// What keyslots are tried with.
 #[derive(Clone, Copy)]
 pub struct Trying<'a> {
     /// The passphrase.
@@ -25,8 +25,9 @@ pub struct Trying<'a> {
     pub allowed: Allowed,
 }
 
-/// In how many bits the digest differs by which the keyslot `n` of this metadata would open: 0 where it opens,
-/// None where it isn't there, lies outside, is refused, or would take too long. It is counted before it is tried.
+/// The number of bits in which the digest differs from one by which the keyslot `n` of this metadata would open:
+/// 0 if it opens, None if it isn't there, lies outside, is refused, or would take too long. It is counted before
+/// it is tried.
 pub fn distance<D: Device, P: Progress>(
     alloc: Global,
     source: &mut D,

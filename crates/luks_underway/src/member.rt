@@ -67,7 +67,7 @@ pub fn unit_at(object: &Value) -> Option<u32>
     u32::try_from(n).ok()
 }
 
-/// By how many bytes the data moves: whole sectors, one at least.
+/// The number of bytes by which the data moves: whole sectors, at least one.
 pub fn shift_at(object: &Value) -> Option<u64>
     ensures { result ≡ shift_in (inside_at Outer.Area (codes "shift_size") (view object.now)) }
 {

@@ -15,9 +15,9 @@ use serde_json::Value;
 pub enum Mode {
     /// From one key to another.
     Reencrypt,
-    /// From no encryption to a key.
+    /// The data had no encryption and gets a key.
     Encrypt,
-    /// From a key to no encryption.
+    /// The data had a key and gets no encryption.
     Decrypt,
 }
 
@@ -48,7 +48,7 @@ pub struct Reencryption<'a> {
     pub mode: Mode,
     /// Where it begins.
     pub direction: Direction,
-    /// By what it is mended.
+    /// The area by which it is mended.
     pub area: ReencryptArea<'a>,
 }
 

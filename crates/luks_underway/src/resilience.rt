@@ -15,7 +15,7 @@ use serde_json::Value;
 pub struct Checksum<'a> {
     /// The name of the hash, as the metadata writes it.
     pub hash: &'a str,
-    /// Of how many bytes each is taken, a power of two from 512 on.
+    /// How many bytes each covers, a power of two from 512 on.
     pub sector_size: u32,
 }
 

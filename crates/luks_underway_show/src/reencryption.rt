@@ -90,8 +90,8 @@ impl fmt::Display for DigestText {
     }
 }
 
-/// By what it is mended: the type of the area, then the hash and the unit of checksums, then by how many bytes the
-/// data moves.
+/// What mends it: the type of the area, then the hash and the unit of checksums, then the number of bytes by which
+/// the data moves.
 #[derive(Clone, Copy)]
 struct ResilienceText<'a>(Resilience<'a>);
 
@@ -137,7 +137,7 @@ impl fmt::Display for ChecksumText<'_> {
     }
 }
 
-/// By how many bytes the data moves.
+/// The number of bytes by which the data moves.
 #[derive(Clone, Copy)]
 struct ShiftText(u64);
 

@@ -164,7 +164,7 @@ fn list_encryption<W: fmt::Write>(
     }
 }
 
-/// By which range of the disk the segment of this number is encrypted; it prints as its line.
+/// The range of the disk that encrypts the segment with this number. It prints as its line.
 #[derive(Clone, Copy)]
 struct OpalLine(u8, Opal);
 

@@ -16,14 +16,14 @@ use std::alloc::Global;
 
 /// Applies the edit to the volume, with as many random bytes as `needed` tells.
 ///
-/// The first refusal is answered: one of `NotAccepted` to `RandomLength`, in the order of the fault
-/// type. No refusal changes a byte, nor does `Memory`; memory is taken for a LUKS2 volume alone,
-/// before the first write: for its metadata, and for Argon2 as much as the edit allows, once to open
-/// a keyslot and once to seal one. `Device` comes exactly where a device call failed; no byte has changed
-/// then but those that the edit writes. Of LUKS1 it leaves each keyslot that the edit doesn't name
-/// as it was, unless the uuid is torn, and of LUKS2 it leaves one of the two copies of the header. Of an
-/// erasure it leaves in LUKS1 the keyslots before the one that it met erased and those behind it as they
-/// were, and in LUKS2 all that open as they did, or none.
+/// The first refusal is answered: one of `NotAccepted` to `RandomLength`, in the order of the fault type.
+/// No refusal changes a byte, nor does `Memory`; memory is taken for a LUKS2 volume alone, before the
+/// first write: for its metadata, and for Argon2 as much as the edit allows, once to open a keyslot and
+/// once to seal one. `Device` comes exactly if a device call failed. Then no byte has changed but those
+/// that the edit writes. LUKS1 keeps each keyslot that the edit doesn't name as it was, unless the uuid
+/// is torn, and LUKS2 keeps one of the two copies of the header. A failed erasure of LUKS1 leaves the
+/// keyslots before the one that it met erased and those after it as they were; for LUKS2 all open as they
+/// did, or none.
 #[tactic(auto, using(luks_area::proofs::DeviceFacts::settled_unchanged))]
 pub fn apply<D: Device>(
     alloc: Global,
@@ -49,10 +49,10 @@ pub fn apply<D: Device>(
     apply_of_header(alloc, device, header, payload, edit, random)
 }
 
-/// What `apply` does of a volume whose header, read before, is this one: the header isn't read again.
-/// It is given up, so that the old metadata doesn't live beside the new.
+/// Does what `apply` does, on a volume whose header was read before: it isn't read again. The header
+/// is given up, so the old metadata doesn't take memory beside the new.
 ///
-/// If the device has other bytes than those of which the header was read, nothing is said of what
+/// If the device no longer has the bytes from which the header was read, nothing is said of what
 /// the edit leaves.
 #[tactic(auto, using(luks_area::proofs::DeviceFacts::settled_unchanged))]
 pub fn apply_of_header<D: Device>(

@@ -44,8 +44,8 @@ pub fn run<D: Device>(
     ensures ran { D.tells → OnOk result (Ran (Replies payload) (D.bytes device.old) steps.now
         replies.old.items replies.new.items (D.bytes device.new)) }
 
-    // If the device didn't fail, a volume that was well formed is so again, its segments are as
-    // they were, and each keyslot that no completed step named opens as before.
+    // If the device didn't fail, a volume that was well formed is well formed again, its segments
+    // are as they were, and each keyslot that no completed step named opens as before.
     ensures keeps { D.tells → WellFormed (D.bytes device.old) payload → OnOk result
         (IsKeptByRun payload (D.bytes device.old) steps.now
         replies.old.items replies.new.items (D.bytes device.new)) }

@@ -50,7 +50,7 @@ fn add_pieces(found: &mut ArrayVec<Piece, 32>, first: &[u8], second: &[u8], k: u
     }
 }
 
-/// In how many bytes of the sector at `at` the areas differ.
+/// The number of bytes of the sector at `at` in which the areas differ.
 fn differing_bytes(first: &[u8], second: &[u8], at: usize) -> usize
     requires inside { at + 512 ≤ length first.now }
     requires long { length second.now ≡ length first.now }

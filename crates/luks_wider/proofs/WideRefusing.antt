@@ -1,4 +1,4 @@
--- In a value that meets the rules no test finds a fault.
+-- No test finds a fault in a value that meets the rules.
 use Rattle.std.proofs.Common.{◌≡◌, ℕ, ◌+◌, ◌*◌, ◌<◌, Bool, true, false, ◌&&◌, List, [], ◌∷◌, ◌++◌, map, Option, Some, None, refl, sym, inl, inr, ◌⊎◌, eq-eqb}
 use Rattle.std.specs.Prelude.{not, option_and_then, is_some, codes}
 use Rattle.std.proofs.lemmas.Bool.{cases_Bool, false_from_ne_true, le-ltb}

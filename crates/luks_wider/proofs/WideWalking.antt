@@ -136,7 +136,7 @@ number_order : (s : Section) (m n : ℕ) (x y : Option WideRow) → strictly (nu
     → NotAfter (wide_place_path (place s (Some m) x)) (wide_place_path (place s (Some n) y))
 number_order s m n x y h = after_prefix (section_name s) _ _ (omega arith, λ _. before (number_text m) (number_text n) _ _ h (tail_of x))
 
--- a place of an object is so
+-- a place of an object has this form
 object_place : (j : Data) (s : Section) (n : ℕ) (q : WidePlace) → IsOfObject j s n q → (x : Option WideRow) × (q ≡ place s (Some n) x)
 object_place j s n q m = elim m [ inl at ↦ (None, at) | inr k ↦ (Some k.1.1.0, k.1.1.1.0) ]
 

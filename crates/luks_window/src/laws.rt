@@ -11,8 +11,8 @@ pub trait Places {
     ghost places: { ℕ → Type 0 };
 }
 
-/// Of a disk that had no place unsettled when a window of it was taken, no byte beside the window has
-/// changed, and where only some places of the window have changed, these alone of the disk have: so
+/// If a disk had no place unsettled when a window of it was taken, no byte outside the window has
+/// changed. If only some places of the window have changed, only these places of the disk have. So
 /// what is said of a volume in a window holds of the disk.
 pub fn nothing_beside_changes<K: Disk, P: Places>()
     ensures taken { StaysInside K.bytes K.unsettled K.start K.len K.bytes K.unsettled }

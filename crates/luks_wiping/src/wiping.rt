@@ -14,11 +14,11 @@ pub fn wipe(bytes: &mut [u8])
     bytes.fill(0);
 }
 
-/// Writes zeros over 98304 bytes of the stack, below what its caller holds there: over what the calls
-/// have left that its caller made before. With less stack the program ends by a signal.
+/// Writes zeros over 98304 bytes of the stack, below what its caller holds there: over what the
+/// caller's earlier calls have left. If there is less stack, the program ends by a signal.
 ///
-/// The answer is whether zeros are there, which they do. Who asks for it needs the zeros: else the
-/// compiler would leave them out.
+/// The answer is whether zeros are there, which is always true. A caller that asks for it needs the
+/// zeros: otherwise the compiler would leave them out.
 #[inline(never)]
 pub fn wipe_stack() -> bool
     ensures { IsTrue result }

@@ -1,4 +1,4 @@
--- By a keyslot it is as that answers, and by the volume key as that does, with no call of the device.
+-- The answer is that of the keyslot, or that of the volume key, which takes no call of the device.
 use Rattle.luks1_edits.proofs.unlocking.unlock.Goals as goal
 
 pub unlock_keyslot-requires-clause-used : goal.unlock_keyslot-requires-clause-used

@@ -1,4 +1,4 @@
--- By a keyslot it is as that answers, and by the volume key as that does, with no call of the device.
+-- The answer is that of the keyslot, or that of the volume key, which takes no call of the device.
 use Rattle.std.proofs.Common.{Some, ap, ◌∙◌}
 use Rattle.std.proofs.lemmas.Result.{err_from_is_err_and, IfErr-weaker}
 use Rattle.luks_meta.specs.Content.{content}
