@@ -132,8 +132,7 @@ count_few test (suc n) one = elim (cases_Bool (test n)) [
 
 -- ---- the numbers that the test holds of are the first ones
 
--- if the test holds of all below each one of which it holds, it holds of the first ones, as many as
--- there are
+-- if the test accepts all numbers below each one that it accepts, it accepts the first ones, as many as there are
 pub front_counted : (test : ℕ → Bool) (n k : ℕ) → ((a b : ℕ) → a < n → b < a → test a ≡ true → test b ≡ true) → k ≤ n → (m : ℕ) → m < count_below test k → test m ≡ true
 front_counted test n zero closed le m less = absurd (omega (arith, less))
 front_counted test n (suc k) closed le m less = elim (cases_Bool (test k)) [
@@ -151,8 +150,7 @@ full : (test : ℕ → Bool) (n : ℕ) → all_below test n ≡ true → count_b
 full test zero all = refl
 full test (suc n) all = let p = and_parts (test n) (all_below test n) all in count_step test n p.0 ∙ ap suc (full test n p.1)
 
--- if the test holds of the first ones, as many as there are, it holds of all below each one of
--- which it holds
+-- if the test accepts the first ones, as many as there are, it accepts all numbers below each one that it accepts
 pub front_of : (test : ℕ → Bool) (n a b : ℕ) → all_below test (count_below test n) ≡ true → a < n → b < a → test a ≡ true → test b ≡ true
 front_of test n a b all less before is = elim (cases_lt b (count_below test n)) [
   | inl in_front ↦ each_below test (count_below test n) b all in_front
