@@ -1,8 +1,8 @@
 """Checks many images and says which ones need attention: auditor.py IMAGE..
 
-It prints a line of JSON for each image: what it is, or the first fault of its header and what to try next. An image needs attention if its header isn't
-accepted, if the two copies of its LUKS2 header disagree, if a keyslot derives too cheaply, or if it has no keyslot. The status is 0 if none does. It
-checks as many images at once as there are processors.
+It prints a line of JSON for each image: what it is, or the first fault of its header and what to try next. An image needs attention if its header
+isn't accepted, if the two copies of its LUKS2 header disagree, if a keyslot derives too cheaply, or if it has no keyslot. The status is 0 if none
+does. It checks as many images at once as there are processors.
 """
 import json
 import multiprocessing

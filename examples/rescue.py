@@ -1,8 +1,8 @@
 """Saves the headers of the LUKS volumes on a disk: rescue.py DISK FOLDER [PASSPHRASE]
 
-For each volume that begins on the disk it writes a file into the folder: a backup of the header if `check` accepts it, else a header that is made from what
-is still whole, for `cryptsetup open --header`. It tries the passphrase on that. PASSPHRASE is a file, and the whole file is the passphrase. The disk is only
-read. Each line says what was found at which byte. The status is 0 if each volume was saved. Ctrl-C ends it.
+For each volume that begins on the disk it writes a file into the folder: a backup of the header if `check` accepts it, else a header that is made
+from what is still whole, for `cryptsetup open --header`. It tries the passphrase on that. PASSPHRASE is a file, and the whole file is the passphrase.
+The disk is only read. Each line says what was found at which byte. The status is 0 if each volume was saved. Ctrl-C ends it.
 """
 import os
 import sys

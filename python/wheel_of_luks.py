@@ -1,7 +1,7 @@
 """Builds the wheel of this folder's module with the shared library in it, as pip asks (PEP 517): `pip install ./python`.
 
-It takes bin/libluks.so.1 beside this folder, which `make library` puts there, or the file that the environment variable LIBLUKS names. The wheel works
-only on Linux on x86-64, with a C library that can load libluks. Nothing is downloaded.
+It takes bin/libluks.so.1 beside this folder, which `make library` puts there, or the file that the environment variable LIBLUKS names. The wheel
+works only on Linux on x86-64, with a C library that can load libluks. Nothing is downloaded.
 """
 import base64
 import ctypes
