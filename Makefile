@@ -2,25 +2,26 @@
 #
 #   demo      run the main job, unproved: luks check on the sample image; ends with 'accepted luks1 areas 10'
 #   program   compile the program without a proof, in a minute or two: bin/luks-unproved
-#   test      run all tests, unproved, in some minutes: the suite of tests/ over bin/luks-unproved, and the tests that are written in Rattle. First it looks
-#             that texts, lists, wrong bodies and the budget of lines are as they should be
+#   test      run all tests, unproved, in some minutes: the suite of tests/ over bin/luks-unproved, and the tests that are written in Rattle. First it
+#             looks that texts, lists, wrong bodies and the budget of lines are as they should be
 #   build     prove and build the program: bin/luks
 #   library   prove and build libluks, the calls for C and Python: bin/libluks.so.1 and bin/libluks.a
 #   gate      the merge gate: every proof from nothing, the suite over the proved program, and the wrong bodies that must be refused. It prints the
 #             processor time that each crate took, and the sums
 #   quick     between gates: prove and test the crates that changed since BASE (the last commit), and what depends on them
-#   plants    between gates: try the wrong bodies of CRATE (of all crates), and keep in tools/plants-refused which were refused; tools/plants --readable
-#             says in seconds whether each can be planted
+#   plants    between gates: try the wrong bodies of CRATE (of all crates), and keep in tools/plants-refused which were refused;
+#             tools/plants --readable says in seconds whether each can be planted
 #   texts     make all texts that repeat docs/commands.table: the helps, parts of the manual page and of COMMANDS, and the completions
 #   install   put the program into PREFIX/bin, its manual page into MANDIR, its completions into BASHCOMPDIR, ZSHCOMPDIR and FISHCOMPDIR. PREFIX is
-#             /usr/local, the others are Debian's places under it; for fish it is /etc/fish/completions, since fish looks into no folder under /usr/local.
-#             All are under DESTDIR if that is given
+#             /usr/local, the others are Debian's places under it; for fish it is /etc/fish/completions, since fish looks into no folder under
+#             /usr/local. All are under DESTDIR if that is given
 #   uninstall  remove these, and those of install-library
 #   install-library  put libluks, its header, libluks.pc and the Python module under PREFIX. PYTHONDIR is the module's folder; if it isn't given, that
 #             is where Debian's Python looks. Without DESTDIR the loader's list is made anew (LDCONFIG)
-#   dist      the archive dist/luks-VERSION-linux-x86_64.tar.gz for a system without rt: the program, also linked statically, its pages, libluks and install.sh
-#   deb       the package dist/luks_VERSION_amd64.deb for Debian, and those of libluks: libluks1, libluks-dev and python3-luks. dist/SHA256SUMS has the
-#             sums of all
+#   dist      the archive dist/luks-VERSION-linux-x86_64.tar.gz for a system without rt: the program, also linked statically, its pages, libluks and
+#             install.sh
+#   deb       the package dist/luks_VERSION_amd64.deb for Debian, and those of libluks: libluks1, libluks-dev and python3-luks. dist/SHA256SUMS has
+#             the sums of all
 #   bench     times and memory, beside other implementations
 #   interop   compare with cryptsetup: volumes that it makes are checked and opened by bin/luks; also each command of docs/RESCUE.md, the manual page,
 #             libluks and both packages
