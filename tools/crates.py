@@ -71,10 +71,6 @@ def read(*path):
         return it.read()
 
 
-def has_tests(crate):
-    return any(file.endswith(".rt") and "#[test]" in read(file) for file in files(crate, ("src",)))
-
-
 def say(text):
     print(f"luks: {text}", file=sys.stderr, flush=True)
 
