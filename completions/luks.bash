@@ -43,7 +43,7 @@ _luks() {
         at=$((at - 1))
     fi
     local before=${COMP_WORDS[at - 1]}
-    # what stands behind these options is no file, but one of these words, where some are known
+    # these options take no file, but one of these words, if some are known
     case $before in
         --slot | --to | --by | --digest) value=1 words="$(echo {0..31})" ;;
         --memory | --iterations | --uuid | --offset | --length | --payload | --kdf-memory | --passes | --iter-time | --label | --subsystem) value=1 ;;
@@ -70,7 +70,7 @@ _luks() {
         compopt +o default 2>/dev/null
         words=$("${COMP_WORDS[0]}" explain 2>/dev/null | cut -d' ' -f1)
     fi
-    # where nothing is offered, -o default names files; what stands before a colon is there already
+    # if nothing is offered, -o default names files; the text before a colon is there already
     mapfile -t COMPREPLY < <(compgen -W "$words" -- "$begun$word")
     COMPREPLY=("${COMPREPLY[@]#"$begun"}")
 }

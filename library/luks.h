@@ -1,48 +1,46 @@
-/* libluks: what is wrong with the header of a LUKS volume, what opens it, edits of its keyslots, headers that are made and
- * backed up, and where volumes begin on a disk.
+/* libluks: judges, lists and opens LUKS volumes, edits their keyslots, makes and backs up headers, and finds volumes on a disk.
  *
- * Link with -lluks. Two families of calls answer the same:
+ * Link with -lluks. There are two families of calls, with the same answers:
  *
  *   luks_check, luks_read, luks_unlock, luks_open     read the volume through a descriptor
- *   luks_add, luks_format2 and so on                  write it through one
- *   luks_check_bytes and so on                        are given ranges of the volume in memory
+ *   luks_add, luks_format2 and so on                  write it through a descriptor
+ *   luks_check_bytes and so on                        take ranges of the volume in memory
  *
- * The last family is proved (docs/PROOFS.md); the others are a page of C that is tested: they read the ranges that it asks for, by
- * pread, and call it. A call of it that writes answers a plan of writes and flushes, which those through a descriptor play: pwrite
- * and fsync in its order. None prints, keeps anything after it has returned, starts a thread, catches a signal or leaves memory for
- * the caller to free.
+ * The calls named _bytes are proved (docs/PROOFS.md). The others are C code that is tested: they read the ranges that a _bytes call
+ * asks for, by pread, and call it. A _bytes call that writes answers a plan of writes and flushes; the call through a descriptor
+ * performs it by pwrite and fsync, in its order. No call prints, keeps anything after it has returned, starts a thread, catches a
+ * signal or leaves memory for the caller to free.
  *
- * Answers. Each call answers a number: LUKS_DONE, a fault of the volume or of what is asked (LUKS_FAULT_..), or one of those below
- * it; luks_fault_name and luks_fault_text explain both. A call that a fault refuses has written nothing. With LUKS_DEVICE errno has
- * the reason, as pread, pwrite, fsync or fstat left it: ESPIPE where the descriptor is of neither a regular file nor a block device,
- * EIO where the disk fails or the file has become shorter, EBUSY where the volume's first bytes changed between reading and writing,
- * so that nothing was written. Any call may answer LUKS_USAGE, LUKS_MEMORY, LUKS_DEVICE and LUKS_DIRECT, and one that writes
- * LUKS_READONLY and LUKS_APPENDS; which faults beside these, each says.
+ * Answers. Each call answers a number: LUKS_DONE, a fault of the volume or of the request (LUKS_FAULT_..), or one of those below it.
+ * luks_fault_name and luks_fault_text explain all of them. If a fault refuses a call, nothing was written. With LUKS_DEVICE errno has
+ * the reason, as pread, pwrite, fsync or fstat left it: ESPIPE if the descriptor is neither a regular file nor a block device, EIO if
+ * the disk fails or the file has become shorter, EBUSY if the volume's first bytes changed between reading and writing, so that
+ * nothing was written. Any call may answer LUKS_USAGE, LUKS_MEMORY, LUKS_DEVICE and LUKS_DIRECT, and one that writes LUKS_READONLY
+ * and LUKS_APPENDS. The comment of each call names its other faults.
  *
- * What is read. Each call has a window: the `length` bytes from `offset` on, fewer where the file ends. Ranges of it are read as they
- * are needed, and held in memory until the call returns: the header and the key areas that are opened or written. Where it reads first it
- * reads 64 KiB, or 544 KiB where a keyslot is opened; at each other place half as much as at the one before, and behind what
- * was read as much again, at most 1 MiB. So beside what the call needs it holds some 1 MiB. A call that writes holds what stands where it
- * writes, and what it writes there, but for zeros at a write's end that stand there already, which aren't written. Pages of zeros take no
- * memory (docs/PERFORMANCE.md has a table). A sector that can't be read is LUKS_DEVICE only where a byte of it is needed; one that is only written is
- * written. The position in the file stays.
+ * What is read. Each call has a window: the `length` bytes from `offset` on, fewer if the file ends before. It reads ranges of the
+ * window as it needs them, and holds them in memory until it returns: the header, and the key areas that are opened or written. The
+ * first read takes 64 KiB, or 544 KiB if a keyslot is opened; each other place takes half as much as the one before; reading on
+ * takes as much again, at most 1 MiB. So a call holds some 1 MiB beyond what it needs. A call that writes holds the bytes that it
+ * overwrites and those that it writes, except final zeros of a write that are there already, which aren't written. Pages of zeros
+ * take no memory (docs/PERFORMANCE.md has a table). A sector that can't be read is LUKS_DEVICE only if a byte of it is needed; one
+ * that is only written is written. The position in the file stays.
  *
- * Locks. No call but luks_open_volume locks anything. As `luks` does, the caller holds flock(LOCK_SH) on the volume's file while it is
- * read, LOCK_EX from before it is read until it was written; of a block device also on the file /run/cryptsetup/L_MAJOR:MINOR, which
- * cryptsetup locks, and removes when it lets go. luks_open_volume opens a name and does all that.
+ * Locks. Only luks_open_volume takes locks. The caller of the other calls holds flock(LOCK_SH) on the volume's file while it is read,
+ * and LOCK_EX from before it is read until it was written. For a block device it also locks the file /run/cryptsetup/L_MAJOR:MINOR,
+ * which cryptsetup locks, and removes when it lets go. luks_open_volume opens a name and does all that.
  *
- * Threads. The calls are re-entrant: two threads may call at once, each with arguments and volumes of its own. A thread with 256 KiB
- * of stack has room for each.
+ * Threads. The calls are re-entrant: two threads may call at once, each with arguments and volumes of its own. A thread needs at most
+ * 256 KiB of stack.
  *
- * Secrets. The calls through a descriptor keep the whole pages in which a passphrase, a key or random bytes lie out of swap and of
- * core dumps while they run (mlock, MADV_DONTDUMP), and undo it then. Where the system refuses it, as beyond RLIMIT_MEMLOCK, they go
- * on without; so does one of two that run at once over the same page. Pages that the caller has locked are left as they are. Memory
- * in which keys are derived isn't locked: a caller that can't have it swapped turns swap off, or encrypts it, or calls mlockall;
- * setrlimit(RLIMIT_CORE) keeps it out of core dumps. Before they return they write zeros over the keys that they derived and the
- * random bytes that they took themselves, and over 192 KiB of the stack below the caller. What stays with the caller are its own
- * buffers: it writes over the passphrase, the key in `key` and its random bytes (explicit_bzero), and over what a FILE or a toolkit
- * buffered of them. Of registers those of 16 bytes and more are cleared, on x86-64. The calls named _bytes leave the stack, registers
- * and pages to their caller.
+ * Secrets. While a call through a descriptor runs, it keeps the whole pages with a passphrase, a key or random bytes out of swap and
+ * of core dumps (mlock, MADV_DONTDUMP), and undoes that at its end. If the system refuses it, for example beyond RLIMIT_MEMLOCK, the
+ * call goes on without; so does one of two calls that run at once over one page. Pages that the caller has locked are left as they
+ * are. Memory in which keys are derived isn't locked: turn swap off or encrypt it, or call mlockall; setrlimit(RLIMIT_CORE) keeps it
+ * out of core dumps. Before a call returns, it writes zeros over the keys that it derived, the random bytes that it took itself, and
+ * 192 KiB of the stack below the caller. The caller keeps its own buffers: write over the passphrase, the key in `key` and your
+ * random bytes (explicit_bzero), and over what a FILE or a toolkit buffered of them. Registers of 16 bytes and more are cleared, on
+ * x86-64. The calls named _bytes leave the stack, registers and pages to their caller.
  */
 #ifndef LUKS_H
 #define LUKS_H
@@ -415,11 +413,11 @@ struct luks_volume {
                  by a user without rights: then cryptsetup isn't kept out */
 };
 
-/* Opens a file or a block device for reading, or where it `writes` for both, and takes its locks as `luks` does: shared to read,
- * exclusive to write, of a block device also that of cryptsetup's file. Where another program holds one it is asked for each 50 ms,
- * for so many milliseconds (`luks` waits 3000), and then this is LUKS_BUSY. Where the file system knows no locks it goes on without.
- * LUKS_DEVICE has errno as open left it; ESPIPE of a folder, a pipe and so on, which are never waited for; EROFS of a device
- * that is read-only and is to be written. Bytes that were read before the lock was held say nothing: read them again. */
+/* Opens a file or a block device for reading, or for both if it `writes`, and takes its locks as `luks` does: shared to read,
+ * exclusive to write, for a block device also that of cryptsetup's file. If another program holds a lock, it asks every 50 ms for so
+ * many milliseconds (`luks` waits 3000), and then answers LUKS_BUSY. If the file system knows no locks, it goes on without.
+ * With LUKS_DEVICE errno is what open left: ESPIPE for a folder, a pipe and so on, which it never waits for; EROFS for a read-only
+ * device that is to be written. Bytes that were read before the lock was held say nothing: read them again. */
 uint32_t luks_open_volume(const char *name, bool writes, uint32_t milliseconds, struct luks_volume *volume);
 
 /* Closes it, and so lets go of its locks; errno stays. */
@@ -472,7 +470,7 @@ uint32_t luks_open(int fd, uint64_t offset, uint64_t length, uint32_t n, const v
 
 /* Tries the passphrase on each keyslot alone, and puts what luks_open answers of the keyslot `n` into answers[n]: LUKS_DONE, LUKS_SHUT, or the
  * fault by which it wasn't tried, or LUKS_DEVICE or LUKS_MEMORY, which end it not. It takes as long as luks_unlock where that finds none; `progress`, which may
- * be NULL, is called before each. Where the header can't be read, or is refused, that is the answer, and nothing is put into `answers`; with LUKS_STOPPED it has those of
+ * be NULL, is called before each. If the header can't be read, or is refused, that is the answer, and nothing is put into `answers`; with LUKS_STOPPED it has those of
  * the keyslots before. */
 uint32_t luks_try(int fd, uint64_t offset, uint64_t length, const void *passphrase, size_t passphrase_bytes, uint32_t memory, uint32_t older,
                   luks_progress *progress, void *context, uint32_t answers[LUKS_KEYSLOTS]);

@@ -29,7 +29,7 @@ def version(path):
 
 
 def files(path, number):
-    """The wheel's files, but for RECORD: each name with its bytes."""
+    """The wheel's files except RECORD: each name with its bytes."""
     package = os.path.join(HERE, "luks")
     for name in sorted(os.listdir(package)):
         if name.endswith(".py") or name == "py.typed":

@@ -349,7 +349,7 @@ class Volume:
         return self._object(LIBRARY.luks_token, _slot(number))
 
     def header(self) -> Header:
-        """The same as records: its keyslots, segments, digests and tokens."""
+        """The header as records: its keyslots, segments, digests and tokens."""
         return Header.of(self.show())
 
     def unlock(self, passphrase: Buffer, memory: int = 0, older: bool = False) -> Optional[int]:
@@ -680,7 +680,7 @@ class Volume:
             return False
 
     def _refuse_other_use(self) -> None:
-        """Refuses to write over what stands in the place of a copy that isn't sound."""
+        """Refuses to overwrite another use of the disk in the place of a copy that isn't sound."""
         try:
             shown = self.show()
         except Fault:

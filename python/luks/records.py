@@ -19,11 +19,11 @@ class Keyslot:
     """Of its key area, as aes-xts-plain64."""
     area_key_bytes: int
     offset: int
-    """Where its key area begins, in bytes from the volume's start."""
+    """The start of its key area, in bytes from the volume's start."""
     size: int
     stripes: int
     key_bytes: Optional[int] = None
-    """Of the volume key that it has."""
+    """The length of the volume key that it has."""
     kdf: Optional[str] = None
     """pbkdf2, argon2i or argon2id."""
     hash: Optional[str] = None

@@ -24,7 +24,7 @@ class Key(bytes):
 
 @dataclass(frozen=True)
 class Add:
-    """By the keyslot `by`; where there is none, by the one that the passphrase opens, or by a key that is the volume's."""
+    """The edit by the keyslot `by`; without one, by the keyslot that the passphrase opens, or by a key that is the volume's."""
     by: int
     old: bytes
     new: bytes
@@ -100,7 +100,7 @@ class RemoveToken:
 
 # the edits that change the header alone, and that LUKS1 hasn't
 REWRITES = (Label, Priority, AddToken, RemoveToken)
-# where the uuid stands in a header, in 40 bytes; and how many random bytes a new one is made of
+# the place of the uuid in a header, in 40 bytes; and how many random bytes make a new one
 UUID_PLACE, UUID_RANDOM = 168, 16
 
 
@@ -177,7 +177,7 @@ class Volume1:
         return self.used == [n]
 
     def refuse_rewrite(self, edit):
-        """LUKS1 has nothing of these but for the uuid."""
+        """LUKS1 has only the uuid of these."""
         if isinstance(edit, REWRITES):
             raise Fault("BadLabel")
         refuse_uuid(edit)

@@ -28,7 +28,7 @@ NEEDED = {version: needed(version) for version in (1, 2)}
 
 
 def offsets(key_bytes):
-    """Where the key areas of LUKS1 begin, in sectors: each at a multiple of 4096 bytes, one right behind the other."""
+    """The first sectors of the key areas of LUKS1: each at a multiple of 4096 bytes, one right after the other."""
     return [8 + n * round_up(4000 * key_bytes, 4096) // 512 for n in range(8)]
 
 

@@ -295,7 +295,7 @@ def flipped(volume, at, bits):
 
 
 def renewed(volume, at):
-    """With a new checksum of the copy at the place."""
+    """The volume with a new checksum of the copy at the place."""
     whole = volume[at:at + 16384]
     digest = hashlib.sha256(whole[:448] + bytes(64) + whole[512:]).digest()
     return volume[:at + 448] + digest + bytes(32) + volume[at + 512:]

@@ -48,7 +48,7 @@ def laid_over(source, target):
 
 
 def restored(backup, target, detached, over_any):
-    """The same of restoring a backup onto a target."""
+    """What restoring a backup onto a target owes."""
     try:
         reader.checked(backup, True)
         fits(backup, len(target), detached)

@@ -48,7 +48,7 @@ def derivation(old, iterations, salt, chosen):
 
 
 def with_slot(value, to, old, digest, iterations, salt, offset, size, chosen=None):
-    """With a new keyslot `to` after the manner of the keyslot `old`, whose key is that of the digest of this name."""
+    """The metadata with a new keyslot `to` like the keyslot `old`, whose key is that of the digest of this name."""
     value = copy.deepcopy(value)
     value["keyslots"][str(to)] = {
         "type": "luks2",

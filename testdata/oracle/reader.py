@@ -450,7 +450,7 @@ def show_map(volume):
 
 
 def shown_map(volume):
-    """What a map has, but for gaps, as (place, order at one place, length or none for an end, name)."""
+    """What a map has, gaps aside, as (place, order at one place, length or none for an end, name)."""
     chosen, total = select(volume), len(volume)
     ends = [(total, 1, None, "end of the volume")]
     if chosen == 1:
@@ -586,7 +586,7 @@ def plan1(volume, d, n, older=False):
 
 
 def plan2(volume, value, n, memory=0, older=False):
-    """The same of keyslot n of LUKS2, where Argon2 may take so many KiB."""
+    """What keyslot n of LUKS2 answers if Argon2 may take so many KiB."""
     slot = value["keyslots"][str(n)]
     digest = next(it for it in value["digests"].values() if str(n) in it["keyslots"])
     kdf = slot["kdf"]
@@ -665,7 +665,7 @@ def open_volume(volume, passphrase, slot=None, memory=0, older=False, by=None):
 
 
 def openable(volume, memory, older):
-    """Of a volume whose header is accepted so far: the plan of a keyslot, whether there can be one of a number, and the order in which they are tried."""
+    """For a volume whose header is accepted so far: the plan of a keyslot, whether a number can be a keyslot's, and the order in which they are tried."""
     chosen = select(volume)
     if chosen == 1:
         d = common1(volume)

@@ -37,7 +37,7 @@ def candidate(source, second, named=None, thorough=False):
 
 
 def newest_vouched(source, second, named, thorough):
-    """Of what checksums vouch for that of the highest sequence number, of one number the first."""
+    """The metadata of the highest sequence number that a checksum vouches for; of several with one number, the first."""
     best, newest = None, -1
     most = vouching.share(source, places(False), thorough)
     for size, at in places(second, named):

@@ -39,7 +39,7 @@ def made(source, given, total):
 
 
 def laid(source, given, total):
-    """The same, where nothing speaks against it before the header is made."""
+    """The header, if nothing refuses it before it is made."""
     d, kept = fields(source, given)
     used = [reader.slot_area1(d, n) for n in kept if d["slots"][n][0] == ENABLED]
     d["slots"] = [d["slots"][n] if n in kept else mended(d, kept, n, len(source)) for n in range(8)]
@@ -63,7 +63,7 @@ def taken(source, given):
 
 
 def faults(source, given):
-    """The faults that stand before a header is made, in their order."""
+    """The faults that show before a header is made, in their order."""
     if len(source) >= 592 and source[:6] == b"LUKS\xde\xad":
         return ["Reencrypting"]
     if len(source) < 592 or not has_signs(source):

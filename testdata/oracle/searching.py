@@ -68,7 +68,7 @@ def by_bit(bit, where=""):
 
 
 def flipped(a, b):
-    """In how many bits they differ."""
+    """The number of bits in which they differ."""
     return (int.from_bytes(a, "big") ^ int.from_bytes(b, "big")).bit_count()
 
 
@@ -277,7 +277,7 @@ def standing_2(source, size, text, passphrase, allowed, tally):
         tally.count()
         at = text.find(old)
         while at >= 0:
-            # another text may stand there
+            # there may be another text
             changed = text[:at] + new + text[at + len(old):]
             made = value_of(size, changed)
             if n in numbers(made) and digest_of(made, n)["digest"].encode() == new and opens(source, made, n, passphrase, allowed, tally):
@@ -411,7 +411,7 @@ def object_length(data, start):
 
 
 def fragments(data):
-    """The keyslots, digests and segments that stand whole in the bytes: where each begins, what it is, the number that stands before it as a member's name, or
+    """The keyslots, digests and segments that are whole in the bytes: where each begins, what it is, the number before it as a member's name, or
     none, and its text."""
     start = data.find(b"{")
     while start >= 0:
@@ -425,7 +425,7 @@ def fragments(data):
 
 
 def listed(disk):
-    """The fragments of a disk, one after the other: where each begins, what it is, and the number that stands before it. What begins inside of one isn't looked at."""
+    """The fragments of a disk, one after the other: where each begins, what it is, and the number before it. What begins inside of one isn't looked at."""
     behind = 0
     for start, kind, number, text in fragments(disk):
         if start >= behind:
@@ -448,7 +448,7 @@ def made_text(region, n, m, keyslot, digest, segment):
 
 
 def kind_of(text):
-    """What the object is: metadata that is accepted but for it is with it in its place."""
+    """What the object is: metadata that is accepted except for it is accepted with it in its place."""
     if len(text) < 32 or not all(0x20 <= byte <= 0x7E for byte in text):
         return None
     for kind in SOME:
@@ -458,7 +458,7 @@ def kind_of(text):
 
 
 def name_before(data, start):
-    """The number that stands before an object as its member's name: `"0":{`."""
+    """The number before an object as its member's name: `"0":{`."""
     head = data[max(start - 5, 0):start]
     if head[-2:] != b'":' or b'"' not in head[:-2]:
         return None
@@ -467,7 +467,7 @@ def name_before(data, start):
 
 
 def found_fragments(source):
-    """The first of each kind in the first bytes of the source, of segments those that encrypt: where each begins, its number, if one stands before it, and its
+    """The first of each kind in the first bytes of the source, of segments those that encrypt: where each begins, its number, if it has one, and its
     text. What stands again with the same number, as in both copies, counts once."""
     them = {kind: [] for kind in SOME}
     for start, kind, number, text in fragments(source[:FRONT + LONGEST]):

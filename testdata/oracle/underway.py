@@ -422,8 +422,8 @@ GIVES = {"old": "the old key of the reencryption", "new": "the new key of the re
 
 
 def said_of_keys(volume, name, passphrase, first, memory=0, older=False, unread=()):
-    """What standard error says of a volume of which this keyslot opens: which key each gives that opens, and which none gives. Of the others those are tried
-    that are where none is named; those of `unread` can't be read."""
+    """What standard error says of a volume of which this keyslot opens: which key each gives that opens, and which none gives. It tries the
+    other keyslots that are tried without --slot; those of `unread` can't be read."""
     value = under_way(volume)
     if value is None or not reencryptions(value):
         return []
@@ -480,7 +480,7 @@ def said_of_passed_over(volume, memory=0, older=False):
 
 
 def said_of_opening(volume, name, passphrase, slot, status, line, memory=0, older=False):
-    """What standard error says behind this answer of a volume in which something is under way, but for how the passphrase ends."""
+    """What standard error says after this answer for a volume in which something is under way, how the passphrase ends aside."""
     if under_way(volume) is None:
         return []
     if status == 0:

@@ -91,7 +91,7 @@ def is_barred(volume, flags):
 
 
 def restored(backup, target, detached, another, progressed):
-    """The same of restoring a backup onto a target; the last two say which headers may be written over. Older second copies that begin before the data lose their
+    """What restoring a backup onto a target owes; the last two say which headers may be written over. Older second copies that begin before the data lose their
     first sector."""
     try:
         copy, lead, value = copy_of(backup)

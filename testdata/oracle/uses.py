@@ -1,4 +1,4 @@
-"""Another use of a disk, by docs/COMMANDS.md: what stands in the place of a copy of a LUKS2 header that isn't sound. `signatures` asks libblkid of its rows."""
+"""Another use of a disk, by docs/COMMANDS.md: what is in the place of a copy of a LUKS2 header that isn't sound. `signatures` compares its rows with libblkid."""
 import reader
 
 MD = bytes.fromhex("FC4E2BA9")
@@ -9,7 +9,7 @@ UBERBLOCKS = [label + 131072 + 1024 * it for label in (0, 262144) for it in rang
 
 
 def at(place, *texts):
-    """Whether one of these stands there, wholly inside."""
+    """Whether one of these is there, wholly inside."""
     return lambda front: any(front[place:place + len(text)] == text for text in texts)
 
 

@@ -48,7 +48,7 @@ def is_cut_short(first, second, most):
 
 
 def cut(area):
-    """The area with zeros for all that stands behind its text."""
+    """The area with zeros for everything after its text."""
     return area.split(b"\0")[0].ljust(len(area), b"\0")
 
 

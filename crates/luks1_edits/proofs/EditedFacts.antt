@@ -239,7 +239,7 @@ module _ (payload : Data) (v : List ℕ) (chosen : Chosen v luks1) (well : WellF
       }
   leaves (Amend c) r w free x = nothing_left (λ n. ⊥) w x.1
 
-  -- no byte changed but of what it touches
+  -- no byte changed except of what it touches
   pub after_rest : (e : Edit) (r w : List ℕ) → After1 v e r w → SameBut (IsTouched1 v e) v w
   after_rest (Add by_ old new to iterations d) r w x =
       touched v (Add by_ old new to iterations d) w (places_wider (IsEither x.slot x.slot) (IsNewKeyslot v to) v w (one_named (IsNewKeyslot v to) x.slot x.is_new) x.rest)

@@ -68,7 +68,7 @@ module _ (h : List ℕ) (payload : Data) (v : List ℕ) (of : IsHeaderOf h paylo
   }
 
   module _ (w : List ℕ) (touched : SameBut (IsOfKeyslots u (IsEither n n)) u w) where
-    -- no byte changed but of the keyslot
+    -- no byte changed except of the keyslot
     own : SameBut (IsOfKeyslot v n) u w
     own = same_but-wider (λ p at. of_one u v n start_still len_still p (of_either u n p at)) touched
 

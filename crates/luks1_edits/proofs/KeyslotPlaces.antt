@@ -1,4 +1,4 @@
--- Where the keyslots of an accepted LUKS1 header stand.
+-- The place of the keyslots of an accepted LUKS1 header.
 use Rattle.std.proofs.Common.{◌≡◌, ℕ, ◌+◌, ◌*◌, ◌<◌, ◌≤◌, List, slice_index_or, subst, sym, ap, ◌∙◌, arith}
 use Rattle.luks_area.specs.declared.area.Area.{Area}
 use Rattle.luks_area.specs.declared.area.AreaName.TheVariants.{Slot}

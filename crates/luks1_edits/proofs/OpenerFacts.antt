@@ -224,7 +224,7 @@ module _ (h : List ℕ) (payload : Data) (v : List ℕ) (x : IsHeaderOf h payloa
   key_refused slot.Memory is = absurd (no_argon2 (part v 0 592) (entry (part v 0 592) n) plan.derivation key_at.is.derivation (refusal_answered (without_memory key.allowed.older) plan slot.Memory is).1)
   key_refused f is = record { slot = n; refused = record { plan = plan; is = key_at; refused = is } }
 
--- what a plan of LUKS1 answers isn't want of memory, which Argon2 alone takes
+-- what a plan of LUKS1 answers isn't a failed allocation, which Argon2 alone takes
 pub never_memory : (older : Bool) (h : List ℕ) (n : ℕ) (plan : SlotPlan) → HasLuks1Plan h n plan → (f : SlotFault) → IsAnsweredWithin (without_memory older) plan f
     → keyslot_fault f ≢ fault.Memory
 never_memory older h n plan there slot.Memory is same = no_argon2 h (entry h n) plan.derivation there.is.derivation is.1

@@ -19,7 +19,7 @@ pub(crate) struct AcceptedHeader<'a> {
     pub(crate) bytes: &'a [u8; 592],
     /// Its fields.
     pub(crate) fields: Luks1,
-    /// Where the volume's payload lies.
+    /// The place of the volume's payload.
     pub(crate) payload: Data,
 }
 

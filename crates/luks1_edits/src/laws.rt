@@ -35,7 +35,7 @@ pub fn luks1_answer_is_local()
 /// After an edit of a well formed LUKS1 volume that nothing refused, the volume is a well formed
 /// LUKS1 volume; its length, its segments and their bytes are as before, and so are the answers, the
 /// entry and the area of each keyslot that the edit didn't name: all of them, where it sets the uuid. No
-/// byte changed but of the keyslots that it named, or of the uuid's field where it sets the uuid. The area
+/// byte changed except of the keyslots that it named, or of the uuid's field where it sets the uuid. The area
 /// that a removed keyslot had is zeros.
 pub fn luks1_edit_keeps_volume()
     ensures keeps { (payload : Payload) (e : TheEdit) (v random w : List ℕ)
@@ -81,12 +81,12 @@ pub fn luks1_edit_sets_uuid()
 
 /// What a failing device call leaves of a well formed LUKS1 volume has its length and its segments'
 /// bytes, and each keyslot that the edit didn't name has its entry and its area, and its answers too
-/// where no uuid is torn. Where no entry that it named is torn either, the volume is well formed still. A
+/// where no uuid is torn. If no entry that it named is torn either, the volume is well formed still. A
 /// keyslot that was changed opens by the old passphrase, or the new one by the new passphrase, to the same
-/// key. Where all keyslots were to be erased, they were so in turn. Where a fault refuses the edit, no byte
+/// key. If all keyslots were to be erased, they were so in turn. If a fault refuses the edit, no byte
 /// changed.
 ///
-/// Where the edit sets the uuid, the volume has no fault but that the uuid's field holds none, and each
+/// If the edit sets the uuid, the volume has no fault but that the uuid's field holds none, and each
 /// keyslot answers as before, or is refused for that fault.
 pub fn luks1_failing_edit()
     ensures rest { (payload : Payload) (e : TheEdit) (v random w : List ℕ)

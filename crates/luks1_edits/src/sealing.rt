@@ -20,7 +20,7 @@ use luks_reading::luks1_area;
 use std::alloc::Global;
 
 /// Makes a keyslot, the one that is asked for or the least that is free, in which the new passphrase
-/// opens the key that the opener gives, whose keyslot is in use, if it is of one. Where the key was to be
+/// opens the key that the opener gives, whose keyslot is in use, if it is of one. If the key was to be
 /// sealed in the keyslot that was opened, that one is then removed.
 pub(crate) fn seal<D: Device>(
     alloc: Global,

@@ -9,12 +9,12 @@ ghost use Rattle.luks1_edits.specs.Places.{entry_place, IsOfUuid};
 use luks_area::{Device, DeviceFault};
 use luks_writing::write_range;
 
-/// Where the first entry stands, and the bytes of each.
+/// The place of the first entry, and the bytes of each.
 const ENTRIES: u64 = 208;
 
 const ENTRY_BYTES: u64 = 48;
 
-/// Where the uuid's field stands.
+/// The place of the uuid's field.
 const UUID: u64 = 168;
 
 /// Writes the 48-byte entry of the keyslot `n`, and flushes.

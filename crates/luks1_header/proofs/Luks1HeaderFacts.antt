@@ -45,7 +45,7 @@ plain_moves n v w h o l within plain = ap is_plain (sym (text_moves n v w h o l 
 pub entry_moves : (v w : List ℕ) → SameFirst 592 v w → (n : ℕ) → n < 8 → entry v n ≡ entry w n
 entry_moves v w h n lt = h.same (208 + 48 * n) 48 (omega arith)
 
--- the texts stand before the key slots
+-- the texts come before the key slots
 pub text_in : (t : TextField) → field_at t + field_len t ≤ common_size
 text_in field.CipherName = lit≤ tt
 text_in field.CipherMode = lit≤ tt

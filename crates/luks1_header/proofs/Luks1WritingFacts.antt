@@ -130,7 +130,7 @@ slots_stay v w e slots n long lt is here before k s under =
           rw is_n (subst W (sym stands) (here s))
     ]
 
--- an entry that was put leaves what stands before the key slots
+-- an entry that was put leaves what precedes the key slots
 pub common_under_slot : (v w e : List ℕ) (c : Luks1Common) (n : ℕ) → length v ≡ 592 → n < 8 → length e ≡ 48 → w ≡ written v (208 + 48 * n) e
     → WritesCommon v c → WritesCommon w c
 common_under_slot v w e c n long lt size is put =

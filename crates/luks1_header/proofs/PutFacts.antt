@@ -69,7 +69,7 @@ put_stands u v w b size at n next long is len inside order rest =
 pub put_leaves : (v w : List ℕ) (size n next : ℕ) → IsFilled v size n → SameBut (IsFrom next) v w → AreZeros w n next
 put_leaves v w size n next state rest = λ k past before. rest.each k (λ there. absurd (omega (arith, before, there))) ∙ state.blank k past
 
--- a number that stands in its bytes is read from them
+-- a number that is in its bytes is read from them
 pub number_stands : (w : List ℕ) (at l x : ℕ) → part w at l ≡ big_bytes l x → x < 256 ^ l → number_at w at l ≡ x
 number_stands w at l x stands fits =
     ap (λ b. big_number l b) (stands ∙ sym (append-nil (big_bytes l x))) ∙ big_number-reads_back l x [] fits

@@ -21,11 +21,11 @@ abbrev pub is_hexadecimal : ℕ → Bool
 is_hexadecimal c =
     (nat_le 0x30 c && nat_le c 0x39) || (nat_le 0x61 c && nat_le c 0x66) || (nat_le 0x41 c && nat_le c 0x46)
 
--- the hyphens of a uuid's text stand at these places (RFC 9562, 4)
+-- the hyphens of a uuid's text are at these places (RFC 9562, 4)
 abbrev pub is_hyphen_place : ℕ → Bool
 is_hyphen_place k = (k == 8) || (k == 13) || (k == 18) || (k == 23)
 
--- the byte may stand at the place k of a uuid's text
+-- the byte may be at the place k of a uuid's text
 abbrev pub is_uuid_byte : ℕ → ℕ → Bool
 is_uuid_byte k c = if is_hyphen_place k then c == 0x2D else is_hexadecimal c
 

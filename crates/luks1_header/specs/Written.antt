@@ -39,7 +39,7 @@ pub record WritesCommon (b : List ℕ) (c : Luks1Common) : Type 0 where
   pub padding : (t : TextField)
       → AreZeros b (field_at t + length (common_text c t)) (field_at t + field_len t)
 
--- the 48 bytes `e` are those of the key slot `s` as it is written: its numbers stand before the salt
+-- the 48 bytes `e` are those of the key slot `s` as it is written: its numbers come before the salt
 -- and after it
 pub record WritesEntry (e : List ℕ) (s : Luks1Slot) : Type 0 where
   pub long : length e ≡ entry_size

@@ -28,7 +28,7 @@ pub enum IterationsOf {
 
 /// Why a header is refused.
 ///
-/// The variants stand in the order in which they are judged: of several faults the first is
+/// The variants are in the order in which they are judged: of several faults the first is
 /// answered, and within a variant the least text field or keyslot number.
 #[derive(Debug, Clone, Copy, PartialEq, Eq)]
 pub enum HeadFault {

@@ -1,4 +1,4 @@
-//! Fields of a header by their places: what stands there, and what is put there.
+//! Fields of a header by their places: what is there, and what is put there.
 ghost use Rattle.std.specs.Prelude.{◌≡◌, ◌≤◌, ◌+◌, ◌^◌, ◌<◌, length};
 ghost use Rattle.byteorder.specs.Endian.{big_bytes};
 ghost use Rattle.luks_area.specs.Ranges.{part, written};

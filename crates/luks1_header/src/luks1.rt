@@ -35,7 +35,7 @@ pub struct Luks1Slot {
     pub iterations: u32,
     /// The salt of the key derivation.
     pub salt: [u8; 32],
-    /// Where the key material begins, in sectors of 512 bytes from the volume's start.
+    /// The first sector of the key material, in sectors of 512 bytes from the volume's start.
     pub key_material_offset: u32,
     /// The number of stripes, at least 1.
     pub stripes: u32,

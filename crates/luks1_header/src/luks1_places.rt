@@ -7,7 +7,7 @@ pub const SIZE: usize = 592;
 /// The magic of a LUKS1 header and of the first copy of a LUKS2 header: `LUKS`, 0xBA, 0xBE.
 pub const MAGIC: [u8; 6] = [0x4C, 0x55, 0x4B, 0x53, 0xBA, 0xBE];
 
-/// The version, which stands there in every header of LUKS.
+/// The version, which is there in every header of LUKS.
 pub const VERSION: usize = 6;
 
 /// The cipher's name, a text of 32 bytes.

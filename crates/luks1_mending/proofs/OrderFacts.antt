@@ -29,7 +29,7 @@ pub place_before : (p m q n : ℕ) → m < 8 → Before p m q n → p * 8 + m < 
 place_before p m q n low (inl less) = omega arith
 place_before p m q n low (inr x) = (let same = x.0 in let below = x.1 in omega (arith, same, below))
 
--- one that stands before the place behind (r, i) stands before that place, or at it
+-- one that comes before the place behind (r, i) comes before that place, or at it
 pub before_or_at : (p m r i : ℕ) → Before p m r (i + 1) → Before p m r i ⊎ ((p ≡ r) × (m ≡ i))
 before_or_at p m r i (inl less) = inl (inl less)
 before_or_at p m r i (inr x) = elim (cases_lt m i) [

@@ -27,6 +27,6 @@ usual_stripes = 4000
 abbrev pub usual_sector : ℕ → ℕ → ℕ
 usual_sector k n = 8 + n * ((sector_count (k * usual_stripes) + 7) / 8 * 8)
 
--- the keyslot `n` stands there
+-- the keyslot `n` is there
 abbrev pub is_usual : List ℕ → ℕ → ℕ → Bool
 is_usual h k n = (sector_of h n == usual_sector k n) && (stripes_of h n == usual_stripes)

@@ -36,7 +36,7 @@ HasPlausibleEntry h total = (n : ℕ) × IsPlausible h total n
 abbrev pub AreTwo : Type 0 → Type 0 → Type 0 → Type 0 → Type 0
 AreTwo A B C D = (A × B) ⊎ (A × C) ⊎ (A × D) ⊎ (B × C) ⊎ (B × D) ⊎ (C × D)
 
--- the magic stands there, or any two of the other signs
+-- the magic is there, or any two of the other signs
 abbrev pub HasSigns : List ℕ → ℕ → Type 0
 HasSigns h total =
     HasMagic h

@@ -43,7 +43,7 @@ pub record IsName (text : List ℕ) : Type 0 where
   pub plain : is_plain text ≡ true
   pub some : text ≢ []
 
--- the text may stand in the field
+-- the text may be in the field
 abbrev pub IsUsable : TextField → List ℕ → Type 0
 IsUsable field.CipherName text = IsName text
 IsUsable field.CipherMode text = IsName text

@@ -15,7 +15,7 @@ use luks_area::text_field;
 use luks1_header::fields::field;
 use luks1_header::{HeadFault, IterationsOf, TextField, is_uuid};
 
-/// Where the fields stand, in bytes from the header's start.
+/// The places of the fields, in bytes from the header's start.
 pub(crate) const CIPHER_NAME: usize = 8;
 
 pub(crate) const CIPHER_MODE: usize = 40;
@@ -60,7 +60,7 @@ pub(crate) fn taken_texts(header: &[u8], given: &Given) -> Result<Texts, HeadFau
     }
 }
 
-/// The same, or the first field of which no text is usable.
+/// The texts that the header gets, or the first field for which no text is usable.
 fn usable_texts(header: &[u8], given: &Given) -> Result<Texts, TextField>
     requires { length header.now ≡ luks1_size }
     ensures taken { IfOk result (AreTaken header.now given.now) }

@@ -9,7 +9,7 @@ use byteorder::{BigEndian, ByteOrder};
 use luks_area::{Area, SECTOR, rounded_to_sectors};
 use luks1_header::fields::field;
 
-/// Where the first of the eight entries stands, and the bytes of each.
+/// The place of the first of the eight entries, and the bytes of each.
 const KEYSLOTS: usize = 208;
 
 const ENTRY_SIZE: usize = 48;
@@ -81,7 +81,7 @@ pub(crate) fn own_area(header: &[u8], key_bytes: u32, n: u8) -> Area
     stripes_area(key_bytes, sector_of(header, n), stripes_of(header, n))
 }
 
-/// Where the keyslot `n` usually begins, in sectors.
+/// The usual first sector of the keyslot `n`.
 pub(crate) fn usual_sector(key_bytes: u32, n: u8) -> u32
     requires key { key_bytes ≤ 128 }
     requires numbered { n < 8 }
@@ -91,7 +91,7 @@ pub(crate) fn usual_sector(key_bytes: u32, n: u8) -> u32
     8 + u32::from(n) * ((sectors + 7) / 8 * 8)
 }
 
-/// Whether the keyslot `n` stands there, with the usual stripes.
+/// Whether the keyslot `n` is there, with the usual stripes.
 pub(crate) fn is_usual(header: &[u8], key_bytes: u32, n: u8) -> bool
     requires long { length header.now ≡ luks1_size }
     requires key { key_bytes ≤ 128 }

@@ -4,7 +4,7 @@ ghost use Rattle.luks1_mending.specs.Taken.{IsNothing};
 
 use arrayvec::ArrayString;
 
-/// What is given of a header's fields: each wins over what stands in the source.
+/// What is given of a header's fields: each wins over what is in the source.
 #[derive(Clone, Copy, PartialEq, Eq)]
 pub struct Given {
     /// The name of the cipher.

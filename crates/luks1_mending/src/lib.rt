@@ -1,4 +1,4 @@
-//! A LUKS1 header made of what still stands of one, and of what is given. Nothing is read or written.
+//! A LUKS1 header made of what is left of one, and of what is given. Nothing is read or written.
 #![tactic(auto)]
 
 mod common;

@@ -24,7 +24,7 @@ use Rattle.luks1_rebuilding.specs.Gives.{Gives, GivesKept, IsKeptCipher, IsKeptD
 use Rattle.luks1_rebuilding.specs.KeyAreas.{header_of, key_of}
 use Rattle.luks1_rebuilding.specs.Alike.{TakesPlain}
 
--- the two take the same but for the modes, which open alike
+-- the two take the same except for the modes, which open alike
 pub record AreAlike (v : List ℕ) (g c : Given) : Type 0 where
   pub mode : List ℕ
   pub takes_mode : taken_text (header_of v) c CipherMode ≡ mode

@@ -1,4 +1,4 @@
--- What stands at a place of a list behind the first.
+-- What is at a place of a list behind the first.
 use Rattle.std.proofs.Common.{◌≡◌, ◌≢◌, ℕ, zero, suc, ◌-◌, List, Option, Some, None, is_some, false, subst, arith, refl}
 use Rattle.std.specs.List.{slice_get}
 use Rattle.luks1_header.specs.Header1.{header_text, key_bytes_of}

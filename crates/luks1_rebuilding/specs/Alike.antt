@@ -1,4 +1,4 @@
--- Two that are given alike but for the mode: `xts-plain64` of the one, `xts-plain` of the other.
+-- Two that are given alike except for the mode: `xts-plain64` of the one, `xts-plain` of the other.
 use Rattle.std.specs.Prelude.{◌≡◌, List, ℕ, codes}
 use Rattle.luks1_header.specs.declared.fault.TextField.TheVariants.{CipherMode, CipherName, HashSpec}
 use Rattle.luks1_mending.specs.Taken.{taken_text}

@@ -1,4 +1,4 @@
--- When no LUKS1 header is made of what stands in the volume `v` and of what is given.
+-- When no LUKS1 header is made of what is in the volume `v` and of what is given.
 use Rattle.std.specs.Prelude.{◌⊎◌, ℕ, ◌<◌, ◌≤◌, List, length, ⊤}
 use Rattle.luks_area.specs.Area.{IsAreaFault}
 use Rattle.luks_area.specs.First.{IsLeast}

@@ -1,4 +1,4 @@
--- A detached LUKS1 header that was made of what still stands in the volume `v` (LUKS1 On-Disk Format 1.2.3, "The
+-- A detached LUKS1 header that was made of what still is in the volume `v` (LUKS1 On-Disk Format 1.2.3, "The
 -- partition header").
 use Rattle.std.specs.Prelude.{◌⊎◌, ℕ, List, length}
 use Rattle.luks_area.specs.Ranges.{part, IsAt, IsOfEither, SameBut}

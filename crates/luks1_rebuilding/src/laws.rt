@@ -11,7 +11,7 @@ ghost use Rattle.luks1_rebuilding.specs.Gives.{Gives};
 ghost use Rattle.luks1_rebuilding.specs.KeyAreas.{IsKeptInUse};
 ghost use Rattle.luks1_rebuilding.specs.Rebuilt.{IsRebuilt};
 
-/// A LUKS1 header that was made of what stands in a volume, and is accepted where it was written, is well formed
+/// A LUKS1 header that was made of what is in a volume, and is accepted where it was written, is well formed
 /// there; and each kept keyslot that is in use answers by each passphrase as the equations give for its entry, its
 /// area and the digest in the volume, with what is taken of the texts and of the key's length, whatever is allowed.
 pub fn rebuilt1_opens_alike()

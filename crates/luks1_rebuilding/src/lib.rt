@@ -1,4 +1,4 @@
-//! A detached LUKS1 header made out of what still stands of one in a volume, and of what is given; and by
+//! A detached LUKS1 header made out of what is left of one in a volume, and of what is given; and by
 //! which cipher, hash and length of the key a passphrase opens a keyslot of such a header. The volume stays as
 //! it is.
 #![tactic(auto)]

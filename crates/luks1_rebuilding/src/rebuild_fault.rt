@@ -6,7 +6,7 @@ use luks2_header::{HeadFault, TextField};
 use std::error::Error;
 use std::fmt;
 
-/// Why no LUKS1 header is made of what stands of one: the first in this order, but for a device's
+/// Why no LUKS1 header is made of what stands of one: the first in this order, except for a device's
 /// failure.
 ///
 /// All but a device's failure leave every byte of the target as it was. None changes the source.

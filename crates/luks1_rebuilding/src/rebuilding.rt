@@ -26,10 +26,10 @@ use luks_area::{Device, DeviceFault};
 use luks_writing::{clear_places, write_range};
 use luks1_mending::Given;
 
-/// Where an older LUKS2 header of the usual metadata size has its second copy.
+/// The place of the second copy of an older LUKS2 header of the usual metadata size.
 const OLDER_SECOND: u64 = 16384;
 
-/// Makes a detached LUKS1 header of what still stands of one in the source and of what is given, and writes it
+/// Makes a detached LUKS1 header of what is left of one in the source and of what is given, and writes it
 /// to the target, from its start on. What stood there before is overwritten without question. The source never
 /// changes.
 ///
@@ -96,7 +96,7 @@ pub fn rebuild1<S: Device, T: Device>(
     rebuild1_from(source, target, &bytes, given)
 }
 
-/// The same of a header that was found near to the source's: it is made of these 592 bytes in place of the source's
+/// Rebuilds from a header that was found near to the source's: it is made of these 592 bytes in place of the source's
 /// first ones, and of what is given. Whether the source's own header, or this one, is accepted as it stands is no matter:
 /// `Counts` never comes. The key areas have the source's bytes. The source never changes.
 pub fn rebuild1_from<S: Device, T: Device>(

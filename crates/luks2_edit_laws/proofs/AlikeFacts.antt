@@ -43,7 +43,7 @@ pub record OpensAlike (allowed : Allowed) (splitter : List ℕ) (a b : Derivatio
   pub argon2 : is_argon2_refused allowed.memory a ≡ false → is_argon2_refused allowed.memory b ≡ false
   pub known : is_known_hash allowed.older splitter ≡ true → is_known_derivation allowed.older a ≡ true → is_known_derivation allowed.older b ≡ true
 
--- the keyslot `new` says of its opening what the keyslot `old` says, but for how it derives
+-- the keyslot `new` says of its opening what the keyslot `old` says, except for how it derives
 pub record SaysSealing (old new : Value) : Type 0 where
   pub encryption : text_of (member_at new outer.Area name.Encryption) ≡ text_of (member_at old outer.Area name.Encryption)
   pub area_key : number_in 1 128 (member_at new outer.Area name.KeySize) ≡ number_in 1 128 (member_at old outer.Area name.KeySize)

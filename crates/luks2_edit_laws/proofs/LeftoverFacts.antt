@@ -58,7 +58,7 @@ module _ (v w : List ℕ) (long : length w ≡ length v) where
 -- ---- the copies of a volume whose copy at `o` counts
 
 module _ (v : List ℕ) (o : ℕ) where
-  -- both copies have one size, and stand at 0 and there
+  -- both copies have one size, and are at 0 and there
   abbrev pub size_of : ℕ
   size_of = hdr_size (header_at v o)
 
@@ -68,7 +68,7 @@ module _ (v : List ℕ) (o : ℕ) where
       let least : 16384 ≤ o = listed_at_least o listed in
       sym (sound.form.second (λ none. absurd (omega (arith, none, least))))
 
-  -- the chosen copy stands at one of the two places
+  -- the chosen copy is at one of the two places
   pub place_is : (b : Copies) → Chosen v (luks2 o b) → (o ≡ 0) ⊎ (o ≡ size_of)
   place_is InStep c = inl c.1.2
   place_is FirstNewer c = inl c.1.2

@@ -15,7 +15,7 @@ use Rattle.luks_making.specs.Naming.{HasUniqueDigests, IsUnique}
 
 -- ---- names that ascend
 
--- the name stands before those of the members
+-- the name comes before those of the members
 abbrev Before : List ℕ → Members → Type 0
 Before k no_members = ⊤
 Before k (member l d ms) = (slice_cmp nat_cmp k l ≡ Less) × Before k ms

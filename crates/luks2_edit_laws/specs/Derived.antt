@@ -19,7 +19,7 @@ pub record DerivesLike (n : ℕ) (from d : Value) : Type 0 where
   pub says : SaysDerivation derivation d
 
 -- it derives as is chosen, and says no more of it; where nothing is, a new one derives as the keyslot
--- `from` that was opened, and one that is sealed again as it did but for its salt and iterations
+-- `from` that was opened, and one that is sealed again as it did except for its salt and iterations
 abbrev pub DerivesAs : Place → ℕ → Option NewDerivation → List ℕ → Value → Value → Type 0
 DerivesAs place n (Some c) salt from d = SaysChosen c salt d
 DerivesAs (New o to) n None salt from d = DerivesLike n from d

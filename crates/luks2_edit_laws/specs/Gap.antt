@@ -8,7 +8,7 @@ use Rattle.luks_area.specs.Area.{AreDisjoint}
 abbrev pub area_at : ℕ → ℕ → Area
 area_at at len = record { start = at; len = len }
 
--- an area of `len` bytes may stand at the place `at`: a multiple of 4096, from `low` on, its end at
+-- an area of `len` bytes may be at the place `at`: a multiple of 4096, from `low` on, its end at
 -- most at `high`, and no byte of it in an area of the set
 pub record IsGap (areas : AreaName → Area → Type 0) (low high len at : ℕ) : Type 0 where
   pub block : ℕ

@@ -101,7 +101,7 @@ abbrev pub HasStripesLike : Value → Like → ℕ → ℕ → Type 0
 HasStripesLike j (Keyslot n) key_bytes stripes = HasStripes j n key_bytes stripes
 HasStripesLike j (Digest number len) key_bytes stripes = (key_bytes ≡ len) × (stripes ≡ 4000)
 
--- the members of keyslot 0 of a new volume, but for the key's length and what is new
+-- the members of keyslot 0 of a new volume, except for the key's length and what is new
 abbrev pub fresh_members : ℕ → NewMembers → SlotMembers
 fresh_members len f = record {
   key_size = len;

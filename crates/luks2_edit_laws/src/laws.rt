@@ -42,7 +42,7 @@ pub fn alike_slots_answer_alike()
 /// After an edit of a well formed LUKS2 volume that nothing refused, the volume is well formed, and
 /// its copies are in step; the segments are as before, and so are the area, the value and the
 /// answers of each keyslot that the edit didn't name. Each area that a keyslot loses is zeros, and a
-/// keyslot that loses its area and isn't sealed again opens no more by any passphrase. Where the
+/// keyslot that loses its area and isn't sealed again opens no more by any passphrase. If the
 /// metadata changes in named members, each keyslot has its area and its answers, the one too whose
 /// priority is set.
 pub fn luks2_edit_keeps_volume()
@@ -86,8 +86,8 @@ pub fn luks2_edit_opens()
 {}
 
 /// After an edit of a well formed LUKS2 volume that nothing refused, a keyslot that it made or sealed
-/// again derives as is chosen, and says no more of it. Where nothing is chosen, a new one derives as
-/// the keyslot that was opened, and one that is sealed again as it did but for its salt and iterations.
+/// again derives as is chosen, and says no more of it. If nothing is chosen, a new one derives as
+/// the keyslot that was opened, and one that is sealed again as it did except for its salt and iterations.
 pub fn luks2_edit_derives()
     ensures { (payload : Payload) (e : TheEdit) (v random w : List ℕ) → WellFormed v payload
         → HasRanges v e random → IsUnrefused2 v payload e random
@@ -98,7 +98,7 @@ pub fn luks2_edit_derives()
 /// the torn write are taken for a header; the segments are as before, and so is each keyslot that
 /// the edit doesn't name; and what counts is the copy that counted before, or one that the edit
 /// writes: its metadata, its uuid, its label and its subsystem. A keyslot that was to be sealed again
-/// opens by the old passphrase or by the new one, to the same key. Where all keyslots were to be erased,
+/// opens by the old passphrase or by the new one, to the same key. If all keyslots were to be erased,
 /// each of them has its area and its answers, or none opens.
 ///
 /// Whatever it leaves of any LUKS2 volume, no byte changed beside the copies, the keyslot's sectors

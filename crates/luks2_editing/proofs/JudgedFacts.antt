@@ -19,7 +19,7 @@ use Rattle.luks2_judging.specs.Opened.{TakesMemoryToOpen}
 use Rattle.luks2_judging.specs.Rows.{HasNoFaultBefore}
 use Rattle.luks2_editing.specs.Replies.{EndsBy2, Replies2}
 
--- a refusal, want of memory, or the device's failure while the edit was judged
+-- a refusal, a failed allocation, or the device's failure while the edit was judged
 pub refused_ends : (v : List ℕ) (payload : Data) (e : Edit) (random w : List ℕ) (f : EditFault) → w ≡ v → IsRefusedEarly v payload e f → EndsBy2 payload v e random f w
 refused_ends v payload e random w f same x = EndsBy-map
     (λ g. (random : List ℕ) → Refusal2 v payload e random g) (λ g. Refusal2 v payload e random g × (w ≡ v)) (TakesMemoryToOpen v e) (w ≡ v) (Unit {0}) (Leftover2 v payload e random w) f

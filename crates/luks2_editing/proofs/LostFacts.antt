@@ -55,7 +55,7 @@ module _ (v : List ℕ) (o : ℕ) (e : Edit) (random : List ℕ) (j : Value) (w 
       csum_rest = subst (λ b. AreZeros b 480 512) (sym head_same) a.csum_rest;
     }
 
-  -- both copies stand beside the places
+  -- both copies are beside the places
   pub both_beside : ((p : ℕ) → IsAt 0 (hdr_size (header_at v o)) p → touched p → ⊥)
       → ((p : ℕ) → IsAt (hdr_size (header_at v o)) (hdr_size (header_at v o)) p → touched p → ⊥)
       → AreWrittenAnew v o e random j w → AreWrittenAnew v o e random j x

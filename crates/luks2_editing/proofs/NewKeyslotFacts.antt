@@ -96,7 +96,7 @@ module _ (j k : Value) (like : Like) (n : ℕ) (area : Area) (x : SealsLike j k 
 
 -- ---- an edit that didn't write it all
 
--- want of memory isn't the device's failure
+-- a failed allocation isn't the device's failure
 memory_is_own : fault.Memory ≢ fault.Device
 memory_is_own e = cc
 

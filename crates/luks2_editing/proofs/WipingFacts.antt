@@ -45,7 +45,7 @@ not_before m n x y =
     let more : name_number n < name_number m = y.1 (omega (arith, up, down)) in
     absurd (omega (arith, less, more))
 
--- a name that comes before the one at a place stands before it
+-- a name that comes before the one at a place comes before it
 before_front : (es : List Entry) (k : ℕ) (d : Entry) → IsIncreasing es → k < length es → (n : AreaName) (a : Area) → HasArea es n a → IsBefore n (get_or es k d).name → HasArea (take k es) n a
 before_front [] k d order lt n a h first = absurd h
 before_front (e ∷ es) zero d order lt n a (inl h) first = absurd (not_before n n (subst (λ m. IsBefore n m) h.0 first) (subst (λ m. IsBefore n m) h.0 first))

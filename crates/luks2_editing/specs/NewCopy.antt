@@ -36,7 +36,7 @@ pub record HasNewCopy (old : Bin2) (texts : TextFields) (salt json w : List ℕ)
   pub fields : IsNewHeader old o texts salt header
   pub written : IsWrittenCopy w o header json
 
--- a copy with the header's size may stand at the place `o`
+-- a copy with the header's size may be at the place `o`
 pub record IsCopyPlace (old : Bin2) (o : ℕ) : Type 0 where
   pub listed : IsListed old.hdr_size
   pub second : o ≢ 0 → old.hdr_size ≡ o

@@ -43,7 +43,7 @@ pub record AreWrittenAnew (v : List ℕ) (o : ℕ) (e : Edit) (random : List ℕ
   pub first : IsWrittenAnew v o e random j w 0
   pub second : IsWrittenAnew v o e random j w (hdr_size (header_at v o))
 
--- the copy that doesn't stand at the place `o` is written anew, and of `u` no byte beside the copies changed
+-- the copy that doesn't are at the place `o` is written anew, and of `u` no byte beside the copies changed
 pub record IsOtherWritten (v : List ℕ) (o : ℕ) (e : Edit) (random : List ℕ) (j : Value) (u w : List ℕ) : Type 0 where
   pub other : IsWrittenAnew v o e random j w (other_place (hdr_size (header_at v o)) o)
   pub rest : SameBut (IsOfCopies (hdr_size (header_at v o))) u w

@@ -43,7 +43,7 @@ IsPlanFault allowed plan fault.Memory = is_argon2 plan.derivation ≡ true
 IsPlanFault allowed plan fault.Device = ⊤
 IsPlanFault allowed plan f = ⊥
 
--- the key is sealed, and the copy of `v` that stands at the place `o` is as it was
+-- the key is sealed, and the copy of `v` that is at the place `o` is as it was
 pub record IsOtherTorn
     (v : List ℕ) (o : ℕ) (plan : SlotPlan) (passphrase key stripes : List ℕ) (u w : List ℕ)
     : Type 0 where

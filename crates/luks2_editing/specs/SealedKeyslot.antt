@@ -49,7 +49,7 @@ pub record IsOfStripesOf (k : Value) (n p : ℕ) : Type 0 where
   pub slot : HasStripes k n key_bytes stripes
   pub at : IsAt area.start (rounded_to_sectors (key_bytes * stripes)) p
 
--- the edit `e` of the volume `v`, whose metadata `j` stands in the copy at `o`, makes the metadata
+-- the edit `e` of the volume `v`, whose metadata `j` is in the copy at `o`, makes the metadata
 -- `k` and seals the key in its keyslot `n`
 pub record IsSealing
     (v : List ℕ) (payload : Data) (e : Edit) (random : List ℕ) (o : ℕ) (j k : Value) (n : ℕ)

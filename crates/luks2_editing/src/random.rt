@@ -14,7 +14,7 @@ fn taken_array<const N: usize>(random: &[u8], at: usize) -> [u8; N]
     owned
 }
 
-/// The salt of the copy of the header that stands at the place `at`: the first 64 random bytes are
+/// The salt of the copy of the header that is at the place `at`: the first 64 random bytes are
 /// that of the copy at 0, the next 64 that of the other one.
 pub(crate) fn copy_salt(random: &[u8], at: u64) -> [u8; 64]
     requires { 128 ≤ length random.now }

@@ -196,7 +196,7 @@ fn gained(alloc: Global, meta: Meta, slot: u8, like: Like, new: &New<'_>) -> Res
     }
 }
 
-/// The same with the members of the keyslot `by_`.
+/// The metadata with a new keyslot that has the members of the keyslot `by_`.
 fn gained_like(
     alloc: Global,
     meta: Meta,
@@ -218,7 +218,7 @@ fn gained_like(
     }
 }
 
-/// The same as a new volume has it, for the digest and a key of so many bytes.
+/// The metadata with a new keyslot as a new volume has it, for the digest and a key of so many bytes.
 fn gained_fresh(
     alloc: Global,
     meta: Meta,
@@ -241,7 +241,7 @@ fn gained_fresh(
     }
 }
 
-/// The keyslot of a new volume with a key of so many bytes, but for what is new.
+/// The keyslot of a new volume with a key of so many bytes, except for what is new.
 fn fresh_keyslot<'a>(key_bytes: u8, new: &New<'a>) -> NewKeyslot<'a>
     ensures { slot_members result ≡ fresh_members key_bytes (new_members new.now) }
 {

@@ -26,7 +26,7 @@ use std::alloc::Global;
 
 /// Seals the key in the area of the plan, which lies behind the copies, and then writes both copies
 /// anew from the chosen one's binary header: the other one first. A flush follows each. A plan that
-/// is refused is answered as `Slot`, want of memory for Argon2 as `Memory`, and then no byte changes.
+/// is refused is answered as `Slot`, a failed allocation for Argon2 as `Memory`, and then no byte changes.
 ///
 /// Of the random bytes the salts of the copies are the first 128; the keyslot's stripes but the
 /// last are those from the place 160 on.

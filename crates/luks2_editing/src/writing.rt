@@ -76,7 +76,7 @@ fn new_headers(
     with_checksums(&first, &second, json)
 }
 
-/// Where the copy stands that isn't the one with this binary header.
+/// The place of the copy that isn't the one with this binary header.
 fn other_place(chosen: &Bin2) -> u64
     ensures { result ≡ other_place chosen.now.hdr_size chosen.now.hdr_offset }
 {

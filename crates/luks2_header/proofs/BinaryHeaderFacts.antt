@@ -17,7 +17,7 @@ use Rattle.luks2_header.specs.declared.bin2.Bin2.{Bin2}
 use Rattle.luks2_header.specs.declared.selection.Copies.TheVariants.{InStep}
 use Rattle.luks2_header.proofs.CopyFacts.{listed_at_least}
 
--- the bytes before the padding, of two headers that say the same but for their checksums
+-- the bytes before the padding, of two headers that say the same except for their checksums
 pub front_agrees : (b c : List ℕ) (h : Bin2) (csum : List ℕ) → 264 ≤ length b → 264 ≤ length c → AreBytes b 6 24 → AreBytes b 256 264
     → AreBytes c 6 24 → AreBytes c 256 264 → HoldsBin2 b h → HoldsBin2 c (record h { csum = csum }) → part b 0 264 ≡ part c 0 264
 front_agrees b c h csum lb lc bb bo cb co fb fc =
@@ -55,7 +55,7 @@ zeros_agree b c from n lb lc zb zc =
     get_or-part b from n k under ∙ zb (from + k) (omega arith) (omega (arith, under))
     ∙ sym (get_or-part c from n k under ∙ zc (from + k) (omega arith) (omega (arith, under))))
 
--- all but the checksum, of two headers that were written and say the same but for it
+-- all but the checksum, of two headers that were written and say the same except for it
 written_front : (b c : List ℕ) (h : Bin2) (csum : List ℕ) → WritesBin2 b h → WritesBin2 c (record h { csum = csum }) → part b 0 448 ≡ part c 0 448
 written_front b c h csum x y =
     let lb : length b ≡ 4096 = x.long in

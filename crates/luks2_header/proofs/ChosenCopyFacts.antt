@@ -145,7 +145,7 @@ not_version1 v long other = record {
 nothing_chosen : (v : List ℕ) → IsNotVersion1 v → HasNoSoundCopy v → Chosen v nothing
 nothing_chosen v other none = ((λ one. other.other one.magic one.version), (λ long. none))
 
--- no fault stands before that of a missing magic
+-- no fault comes before that of a missing magic
 least_NotLuks : (v : List ℕ) → 592 ≤ length v → (g : HeadFault) → IsSelectFault v g → NotAfter (head_key fault.NotLuks) (head_key g)
 least_NotLuks v long fault.TooShort bad = absurd (omega arith)
 least_NotLuks v long fault.NotLuks bad = (lit≤ tt, λ _. tt)
@@ -153,7 +153,7 @@ least_NotLuks v long fault.Version bad = (lit≤ tt, λ _. tt)
 least_NotLuks v long fault.NoSoundCopy bad = (lit≤ tt, λ _. tt)
 least_NotLuks v long _ bad = absurd bad
 
--- with the magic, none stands before that of the version
+-- with the magic, none comes before that of the version
 least_Version : (v : List ℕ) → 592 ≤ length v → HasMagic v → (g : HeadFault) → IsSelectFault v g → NotAfter (head_key fault.Version) (head_key g)
 least_Version v long magic fault.TooShort bad = absurd (omega arith)
 least_Version v long magic fault.NotLuks bad = absurd (bad.1 magic)
@@ -161,7 +161,7 @@ least_Version v long magic fault.Version bad = (lit≤ tt, λ _. tt)
 least_Version v long magic fault.NoSoundCopy bad = (lit≤ tt, λ _. tt)
 least_Version v long magic _ bad = absurd bad
 
--- with the magic and version 2, none stands before that of the copies
+-- with the magic and version 2, none comes before that of the copies
 least_NoSoundCopy : (v : List ℕ) → 592 ≤ length v → HasMagic v → version_of v ≡ 2 → (g : HeadFault) → IsSelectFault v g → NotAfter (head_key fault.NoSoundCopy) (head_key g)
 least_NoSoundCopy v long magic version fault.TooShort bad = absurd (omega arith)
 least_NoSoundCopy v long magic version fault.NotLuks bad = absurd (bad.1 magic)

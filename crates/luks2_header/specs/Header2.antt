@@ -15,7 +15,7 @@ use Rattle.luks2_header.specs.declared.bin2.Bin2.{Bin2}
 abbrev pub second_magic : List ℕ
 second_magic = 0x53 ∷ 0x4B ∷ 0x55 ∷ 0x4C ∷ 0xBA ∷ 0xBE ∷ []
 
--- the magic of the copy at the place o: the first copy stands at 0
+-- the magic of the copy at the place o: the first copy is at 0
 abbrev pub magic_of : ℕ → List ℕ
 magic_of o = if o == 0 then luks_magic else second_magic
 

@@ -8,8 +8,8 @@ use Rattle.luks2_header.specs.Header2.{binary_header_size, csum_at, csum_size, h
 use Rattle.luks2_header.specs.Sizes.{IsListed}
 use Rattle.luks2_header.specs.declared.bin2.Bin2.{Bin2}
 
--- the 4096 bytes `b` are the binary header `h` as it is written: its numbers stand before the label
--- and behind the subsystem; zeros stand behind them, from the place 264 on, and behind the checksum
+-- the 4096 bytes `b` are the binary header `h` as it is written: its numbers come before the label
+-- and behind the subsystem; zeros follow them, from the place 264 on, and behind the checksum
 pub record WritesBin2 (b : List ℕ) (h : Bin2) : Type 0 where
   pub long : length b ≡ binary_header_size
   pub fields : HoldsBin2 b h

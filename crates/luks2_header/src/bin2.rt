@@ -16,7 +16,7 @@ use luks1_header::luks1_places::MAGIC;
 use luks1_header::{HeadFault, TextField, is_uuid};
 use sha2::{Digest, Sha256};
 
-/// The binary header of a copy of a LUKS2 header, field by field as it stands there
+/// The binary header of a copy of a LUKS2 header, field by field as it is there
 /// (LUKS2 On-Disk Format 1.1, 2.1). Nothing in it is judged yet.
 #[derive(Debug, Clone, Copy, PartialEq, Eq)]
 pub struct Bin2 {

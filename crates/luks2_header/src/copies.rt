@@ -192,7 +192,7 @@ pub(crate) fn begins_copy<D: Device>(
     Ok(true)
 }
 
-/// The same of the copy at `at`, whose first 4096 bytes are read into `head`.
+/// Begins to judge the copy at `at`, whose first 4096 bytes are read into `head`.
 pub(crate) fn begins_at<D: Device>(
     device: &mut D,
     at: u64,

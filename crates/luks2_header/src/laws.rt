@@ -38,9 +38,9 @@ pub fn soundness_is_local()
         → hdr_size (header_at v o) ≤ n → part v o n ≡ part w o n → IsSound v o ↔ IsSound w o }
 {}
 
-/// A copy that was written with its checksum is sound. Where the first copy was, and the second
+/// A copy that was written with its checksum is sound. If the first copy was, and the second
 /// where the first one ends, with one sequence number, the first is chosen and both are in step,
-/// whatever stands at the other places.
+/// whatever is at the other places.
 pub fn written_copies_are_chosen()
     ensures sound { (v : List ℕ) (o : ℕ) (h : Bin2) (json : List ℕ)
         → IsWrittenCopy v o h json → IsSound v o }

@@ -40,7 +40,7 @@ pub enum Copies {
 pub enum Selected {
     /// The 592 bytes of a LUKS1 header, of which its version alone was judged.
     V1([u8; 592]),
-    /// The chosen LUKS2 copy; it stands at `header.hdr_offset`.
+    /// The chosen LUKS2 copy; it is at `header.hdr_offset`.
     V2 {
         /// The copy's binary header.
         header: Bin2,

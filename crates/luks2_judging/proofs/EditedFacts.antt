@@ -1,4 +1,4 @@
--- The metadata that an edit makes is one but for the salt.
+-- The metadata that an edit makes is one except for the salt.
 use Rattle.std.proofs.Common.{◌≡◌, ℕ, ◌*◌, List, length, codes, Option, Some, None, refl, sym, ap, subst, ◌∙◌, arith}
 use Rattle.std.proofs.lemmas.Option.{same_Some}
 use Rattle.base64.specs.GeneralPurpose.{IsBytes}

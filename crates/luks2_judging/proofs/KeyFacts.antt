@@ -91,7 +91,7 @@ unlike_unkeyed older j key f bad = absurd bad
 
 -- ---- what the volume key answers
 
--- it isn't the device's failure, nor want of memory
+-- it isn't the device's failure, nor a failed allocation
 pub unkeyed_own : (older : Bool) (j : Value) (key : List ℕ) (f : EditFault) → IsUnkeyed2 older j key f → is_edit_failure f ≡ false
 unkeyed_own older j key fault.Device bad = absurd bad
 unkeyed_own older j key f bad = refl

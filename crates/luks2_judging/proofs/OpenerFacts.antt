@@ -64,7 +64,7 @@ pub keeps_answer : (allowed : Allowed) (v : List ℕ) (n : ℕ) (key : List ℕ)
 keeps_answer allowed v n key o copies (Some k) chosen x = record { choice = luks2 o copies; chosen = chosen; plan = x.plan; is = x.is; unrefused = x.unrefused; key = x.own }
 keeps_answer allowed v n key o copies None chosen x = record { choice = luks2 o copies; chosen = chosen; plan = x.plan; is = x.is; unrefused = x.unrefused; key = x.own }
 
--- a fault of the volume's own isn't want of memory
+-- a fault of the volume's own isn't a failed allocation
 pub never_wanting : (f : OpenFault) → is_own f ≡ true → f ≡ opening.Memory → ⊥
 never_wanting f own wants = let two : is_own opening.Memory ≡ true = subst (λ g. is_own g ≡ true) wants own in cc
 

@@ -108,7 +108,7 @@ put_as_long k d e value (member l f ms) = put_by (slice_cmp nat_cmp k l) k l d e
 pub record SaltsAsLong (a b : List ℕ) : Type 0 where
   pub same : length (quoted (base64_text a)) ≡ length (quoted (base64_text b))
 
--- the keyslots have the same members but for the salt
+-- the keyslots have the same members except for the salt
 pub record SameButSalt (s t : SlotMembers) : Type 0 where
   pub key_size : s.key_size ≡ t.key_size
   pub stripes : s.stripes ≡ t.stripes

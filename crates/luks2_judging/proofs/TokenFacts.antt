@@ -52,7 +52,7 @@ unnumbered_untaken : (j : Value) (to : Option ℕ) → HasNoTokenNumber j to →
 unnumbered_untaken j (Some t) over taken = let low = taken.0 in omega (arith, low, over)
 unnumbered_untaken j None over taken = taken
 
--- ---- one of the three refusals stands at most
+-- ---- one of the three refusals is at most
 
 lacks_taken : (j : Value) (c : Change) → LacksToken j c → IsTokenTaken j c → ⊥
 lacks_taken j (changes.Priority slot priority) x y = x

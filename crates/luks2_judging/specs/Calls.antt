@@ -22,7 +22,7 @@ pub record IsReadyToJudge {D : Type 0} (device : Ghosts D) (copy : ChosenCopy) (
   pub total : len ≡ device.size old
   pub own : IsAcceptedFor copy areas len edit
 
--- what is promised where the copy counts, and no fault stands in a row before the keyslot is opened
+-- what is promised where the copy counts, and no fault is in a row before the keyslot is opened
 abbrev pub WhereJudged : {D : Type 0} → Ghosts D → ChosenCopy → List Entry → Edit → D → (Data → Type 0) → Type 0
 WhereJudged device copy areas edit old Promise = device.tells → IsChosenCopy (device.bytes old) copy → (payload : Data)
     → ((random : List ℕ) → IsJudgedTo 4 copy areas (device.bytes old) payload edit random) → Promise payload

@@ -158,7 +158,7 @@ IsUnrefusedSoFar v payload e it = IsUnrefusedOf it.copy v payload e it.edit
 abbrev pub IsRefusedEarly : List ℕ → Data → Edit → EditFault → Type 0
 IsRefusedEarly v payload e = EndsBy (λ f. (random : List ℕ) → Refusal2 v payload e random f) (TakesMemoryToOpen v e) ⊤
 
--- the copy counts, the volume has these areas, and no fault stands in a row before the row `k`
+-- the copy counts, the volume has these areas, and no fault is in a row before the row `k`
 pub record IsJudgedTo
     (k : ℕ) (copy : ChosenCopy) (areas : List Entry) (v : List ℕ) (payload : Data) (e : Edit)
     (random : List ℕ)

@@ -58,7 +58,7 @@ pub record IsTooQuick (h total : ℕ) (payload : Data) (j : Value) (like : Like)
   pub room : HasNoNewArea h total payload j like → ⊥
   pub turns : asked_few_turns asked ≡ true
 
--- it wouldn't, but by an Argon2 that takes too much memory, or is outside its bounds
+-- it wouldn't, except by an Argon2 that takes too much memory, or is outside its bounds
 pub record IsTooLarge (h total : ℕ) (payload : Data) (j : Value) (like : Like) (memory : ℕ) (asked : AskedDerivation) : Type 0 where
   pub room : HasNoNewArea h total payload j like → ⊥
   pub turns : asked_few_turns asked ≡ false

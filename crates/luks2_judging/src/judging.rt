@@ -121,7 +121,7 @@ fn taken_by<'a, D: Device>(
 
 /// The rows from what gives the key on: `Locked`, `KeyLength`, `WrongKey`, `Slot`, `SlotTaken`, `NoFreeSlot`,
 /// `NoRoom`, `LastSlot`, `Iterations`, `Argon2`, `BadLabel`, `NoSuchToken`, `TokenTaken`, `NoFreeToken`,
-/// `UnreadableToken`, `BadUuid`. Where all keyslots are erased, none of them refuses it.
+/// `UnreadableToken`, `BadUuid`. If all keyslots are erased, none of them refuses it.
 fn judge_with_key<'a, D: Device>(
     alloc: Global,
     device: &mut D,
@@ -148,7 +148,7 @@ fn judge_with_key<'a, D: Device>(
     }
 }
 
-/// The same of an edit that seals a key: `Locked`, `KeyLength`, `WrongKey`, `Slot`, `SlotTaken`,
+/// The first fault of an edit that seals a key: `Locked`, `KeyLength`, `WrongKey`, `Slot`, `SlotTaken`,
 /// `NoFreeSlot`, `NoRoom`, `Iterations`, `Argon2`.
 fn judge_sealing_of<'a, D: Device>(
     alloc: Global,
@@ -200,7 +200,7 @@ fn judge_sealing_of<'a, D: Device>(
     }
 }
 
-/// The same of an edit that removes a keyslot: `Locked`, `KeyLength`, `WrongKey`, `Slot`, `LastSlot`.
+/// The first fault of an edit that removes a keyslot: `Locked`, `KeyLength`, `WrongKey`, `Slot`, `LastSlot`.
 fn judge_removal_of<'a, D: Device>(
     alloc: Global,
     device: &mut D,
@@ -229,7 +229,7 @@ fn judge_removal_of<'a, D: Device>(
     Ok(JudgedEdit::Remove { slot, area })
 }
 
-/// The same of an edit that writes the header anew: `BadLabel`, `NoSuchToken`, `TokenTaken`,
+/// The first fault of an edit that rewrites the header: `BadLabel`, `NoSuchToken`, `TokenTaken`,
 /// `NoFreeToken`, `UnreadableToken`, `BadUuid`.
 fn judge_rewriting<'a>(
     accepted: &Accepted<'_>,

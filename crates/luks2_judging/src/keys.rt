@@ -216,7 +216,7 @@ fn refusal_like(meta: &Meta, like: Like, older: bool) -> Option<SlotFault>
     }
 }
 
-/// The same of one that is made like the keyslot `n`, which is there.
+/// What refuses a new keyslot that is made like the keyslot `n`, which is there.
 fn refusal_of(meta: &Meta, n: u8, older: bool) -> Option<SlotFault>
     requires { IsInUse (content meta.now) n }
     ensures { IsRefusedLike older (content meta.now) n result }

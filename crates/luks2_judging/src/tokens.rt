@@ -116,7 +116,7 @@ fn judge_amending<'a>(meta: &Meta, change: Change<'a>) -> Result<JudgedChange<'a
     }
 }
 
-/// The same of a change, if there is one.
+/// Judges a change, if there is one.
 pub(crate) fn judge_change<'a>(
     meta: &Meta,
     change: Option<Change<'a>>,

@@ -21,7 +21,7 @@ near_changed v given place n (change.Digest bits) new x = x
 near_changed v given place n change.Mixed new x = absurd x
 near_changed v given place n (change.Fragments keyslot digest segment) new x = absurd x
 
--- what stands at its place is as long as its area
+-- what is at its place is as long as its area
 pub there_in : (total : ℕ) (place : Place) (json : List ℕ) (f : Found2) → IsPlace total place → length json ≡ place.size - 4096 → IsThere place json f
     → IsPlace total f.place × (4096 + length f.json.items ≡ f.place.size)
 there_in total place json f inside long x =

@@ -26,7 +26,7 @@ pub record HasDigest (json : List ℕ) (n : ℕ) (bytes : List ℕ) : Type 0 whe
   pub there : object_at value Digests number ≡ Some object
   pub is : bytes_in 20 64 (member_at object outer.Top name.Digest) ≡ Some bytes
 
--- how bytes stand in the metadata (RFC 4648, section 4)
+-- how bytes are in the metadata (RFC 4648, section 4)
 abbrev pub base64_text : List ℕ → List ℕ
 base64_text bytes = encode alphabet 61 true bytes
 
@@ -34,7 +34,7 @@ base64_text bytes = encode alphabet 61 true bytes
 abbrev pub few_bits : ℕ
 few_bits = 8
 
--- the text of the one digest stands at the place, and that of the other is put there
+-- the text of the one digest is at the place, and that of the other is put there
 pub record IsReplaced (json stood digest : List ℕ) (place : ℕ) (new : List ℕ) : Type 0 where
   pub long : length new ≡ length json
   pub before : part json place (length (base64_text stood)) ≡ base64_text stood

@@ -48,13 +48,13 @@ pub record IsOfCopies (v : List ℕ) (place : Place) (new : List ℕ) : Type 0 w
 abbrev pub shortest : ℕ
 shortest = 16384
 
--- the place is that of the first copy of the shortest header, and the area is made of objects that stand in the volume; the segment is the given one,
+-- the place is that of the first copy of the shortest header, and the area is made of objects that are in the volume; the segment is the given one,
 -- if one is
 pub record IsOfFragments (v : List ℕ) (given : Option GivenSegment) (place : Place) (n keyslot digest : ℕ) (segment : Option ℕ) (new : List ℕ) : Type 0 where
   pub first : place ≡ first_place shortest
   pub made : IsMadeOf v given n keyslot digest segment new
 
--- the area is that of the copy at the place but for the change, for the keyslot `n`; or it is made of fragments
+-- the area is that of the copy at the place except for the change, for the keyslot `n`; or it is made of fragments
 abbrev pub IsChanged2 : List ℕ → Option GivenSegment → Place → ℕ → Change2 → List ℕ → Type 0
 IsChanged2 v given place n change.Nothing new = new ≡ area_of v place
 IsChanged2 v given place n (change.Bit at bit) new = IsBitTurned (area_of v place) at bit new
@@ -90,7 +90,7 @@ pub record HasNone2 (allowed : Allowed) (v p : List ℕ) : Type 0 where
 abbrev pub IsFoundNear : Allowed → List ℕ → List ℕ → Found2 → Type 0
 IsFoundNear allowed v p f = (given : Option GivenSegment) → IsFound2 allowed given v p f
 
--- the area is that which stands but for the change
+-- the area is that which stands except for the change
 abbrev pub IsNear2 : List ℕ → ℕ → Change2 → List ℕ → Type 0
 IsNear2 json n change.Nothing new = new ≡ json
 IsNear2 json n (change.Bit at bit) new = IsBitTurned json at bit new

@@ -29,7 +29,7 @@ abbrev pub IsOf : ℕ → List ℕ → Type 0
 IsOf p [] = ⊥
 IsOf p (place ∷ rest) = (p ≡ place) ⊎ IsOf p rest
 
--- each of the first bytes that differs stands at one of the places
+-- each of the first bytes that differs is at one of the places
 abbrev pub AreAllOf : List ℕ → List ℕ → ℕ → List ℕ → Type 0
 AreAllOf first second count places = (p : ℕ) → p < count → (slice_index first p ≡ slice_index second p) ⊎ IsOf p places
 

@@ -56,7 +56,7 @@ pub(crate) fn by_bits<D: Device, P: Progress>(
     )
 }
 
-/// The same of the bytes of the text, which ends there.
+/// Turns each bit of the text, which ends there.
 fn by_bits_to<D: Device, P: Progress>(
     alloc: Global,
     source: &mut D,
@@ -98,7 +98,7 @@ fn by_bits_to<D: Device, P: Progress>(
     Ok(None)
 }
 
-/// The same of the byte at this place of the text.
+/// Turns each bit of the byte at this place of the text.
 fn by_bits_at<D: Device, P: Progress>(
     alloc: Global,
     source: &mut D,

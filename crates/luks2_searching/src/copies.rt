@@ -67,7 +67,7 @@ fn cut(json: &mut [u8])
     json[end..].fill(0);
 }
 
-/// Where the area's text ends: its first zero byte, or its end.
+/// The end of the area's text: its first zero byte, or the area's end.
 pub(crate) fn text_end(area: &[u8]) -> usize
     ensures end { result ≡ text_end area.now }
     ensures inside { result ≤ length area.now }

@@ -103,7 +103,7 @@ fn near_digest<D: Device, P: Progress>(
     given_digest(alloc, source, &plan, trying, tally, progress)
 }
 
-/// The same of a keyslot of this plan.
+/// The digest that a keyslot of this plan gives.
 fn given_digest<D: Device, P: Progress>(
     alloc: Global,
     source: &mut D,

@@ -1,7 +1,7 @@
 //! What a search in LUKS2 metadata finds.
 use luks_rebuilding::Place;
 
-/// What isn't as it stands in metadata that was found.
+/// What isn't as it is in metadata that was found.
 #[derive(Clone, Copy, PartialEq, Eq)]
 pub enum Change2 {
     /// Nothing: a keyslot opens by what stands.
@@ -20,7 +20,7 @@ pub enum Change2 {
     },
     /// Bytes of both copies: each is that of one of them.
     Mixed,
-    /// Metadata is made of objects that stand whole, each at its place, in bytes from the volume's start.
+    /// Metadata is made of objects that are whole, each at its place, in bytes from the volume's start.
     Fragments {
         /// The keyslot.
         keyslot: u64,

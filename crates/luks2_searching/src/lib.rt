@@ -1,5 +1,5 @@
 //! What of damaged LUKS2 metadata a passphrase finds: each search changes few bytes of what stands, or puts together what
-//! stands whole of it, and takes that by which a keyslot opens to a key that meets its digest. Nothing is written, and each
+//! is whole of it, and takes that by which a keyslot opens to a key that meets its digest. Nothing is written, and each
 //! derivation is counted before it is made.
 #![tactic(auto)]
 

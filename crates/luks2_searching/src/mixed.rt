@@ -51,7 +51,7 @@ pub(crate) fn by_mixing<D: Device, P: Progress>(
     )
 }
 
-/// The same of these places, in which the areas differ.
+/// Tries the compositions of these places, at which the areas differ.
 fn by_numbers<D: Device, P: Progress>(
     alloc: Global,
     source: &mut D,

@@ -129,7 +129,7 @@ fn replaced(
     Ok(Some(changed))
 }
 
-/// Whether the text stands at the place.
+/// Whether the text is at the place.
 fn stands_at(json: &[u8], at: usize, text: &[u8]) -> bool
     requires { at ≤ length json.now }
     ensures inside { result ≡ true → at + length text.now ≤ length json.now }

@@ -36,13 +36,13 @@ pub(crate) enum Step {
 }
 
 /// The first metadata by which the passphrase opens a keyslot, or None where none does: near to that of a copy at the places
-/// that the standard lists whose JSON area begins with a brace; or made of a keyslot and a digest that stand whole in
-/// the first 8 MiB, and of the segment that is given, or else of one that stands there.
+/// that the standard lists whose JSON area begins with a brace; or made of a keyslot and a digest that are whole in
+/// the first 8 MiB, and of the segment that is given, or else of one that is there.
 ///
 /// Near to that of a copy is what stands; what has a digest that differs in at most 8 bits; what is composed of the bytes
 /// of both copies of one size, where these differ in at most 16; and what has one bit of its text turned. What stands
 /// behind an area's text is taken as zeros. The source never changes. That a digest in reach is found is in no clause, nor
-/// that a keyslot which stands whole is.
+/// that a keyslot which is whole is.
 ///
 /// `tally` counts each derivation before it is made: `Spent` comes only where as many were made as may be.
 /// `Device` comes exactly where a device call failed. A keyslot by more than 2^26 iterations, or of more than
@@ -145,7 +145,7 @@ fn by_step<D: Device, P: Progress>(
     Ok(None)
 }
 
-/// The same of the copies of this size.
+/// Searches the copies of this size.
 fn by_size<D: Device, P: Progress>(
     alloc: Global,
     source: &mut D,
@@ -341,7 +341,7 @@ fn mixed_by_size<D: Device, P: Progress>(
     }
 }
 
-/// The same with this area of the first copy.
+/// Tries the compositions with this area of the first copy.
 fn mixed_with<D: Device, P: Progress>(
     alloc: Global,
     source: &mut D,

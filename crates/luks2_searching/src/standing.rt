@@ -55,7 +55,7 @@ pub(crate) fn as_it_stands<D: Device, P: Progress>(
     Ok(None)
 }
 
-/// The same of the keyslot `n`.
+/// Tries the keyslot `n` unchanged.
 fn slot_as_it_stands<D: Device, P: Progress>(
     alloc: Global,
     source: &mut D,

@@ -156,7 +156,7 @@ sum_0 : (p q b c d : ℕ) → bit_xor (bit_xor p q) (bit_xor b (bit_xor c d)) �
 sum_0 p q b c d = same_from_bits _ _ (λ i.
     rw (bit_at_xor (bit_xor p q) (bit_xor b (bit_xor c d)) i, bit_at_xor p q i, bit_at_xor b (bit_xor c d) i, bit_at_xor (bit_xor p (bit_xor q b)) (bit_xor c d) i, bit_at_xor p (bit_xor q b) i, bit_at_xor q b i, bit_at_xor c d i) (omega arith))
 
--- as they stand in row 1
+-- as they are in row 1
 sum_1 : (p q c d a : ℕ) → bit_xor (bit_xor p q) (bit_xor c (bit_xor d a)) ≡ bit_xor (bit_xor a p) (bit_xor (bit_xor q c) d)
 sum_1 p q c d a = same_from_bits _ _ (λ i.
     rw (bit_at_xor (bit_xor p q) (bit_xor c (bit_xor d a)) i, bit_at_xor p q i, bit_at_xor c (bit_xor d a) i, bit_at_xor d a i, bit_at_xor (bit_xor a p) (bit_xor (bit_xor q c) d) i, bit_at_xor a p i, bit_at_xor (bit_xor q c) d i, bit_at_xor q c i) (omega arith))

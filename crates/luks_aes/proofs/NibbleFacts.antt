@@ -52,7 +52,7 @@ places_fit js l p =
     SwzOk-from_Each1 w8 16 1 16 0 js refl (omega (arith, l))
     (Each1-from_get_or (λ (j : ℕ). T (leb 128 j || ltb j 16)) js 0 (λ k h. place_fits (slice_index js k) (p k (omega (arith, l)))))
 
--- what stands at a place
+-- what is at a place
 at_place : (table : List ℕ) (j k : ℕ) → length table ≡ 16 → k < 16 → IsPlace j
     → cond (leb 128 j) 0 (slice_index table (16 * ((0 + k) / 16) + j)) ≡ slice_index table j
 at_place table j k l low p =

@@ -61,7 +61,7 @@ products_gates =
 unfoldable pub products : List ℕ → List ℕ
 products wires = outcome products_gates (17 ∷ 16 ∷ 15 ∷ 14 ∷ 13 ∷ 12 ∷ 11 ∷ 10 ∷ 9 ∷ 8 ∷ 7 ∷ 6 ∷ 5 ∷ 4 ∷ 3 ∷ 2 ∷ 1 ∷ 0 ∷ []) wires
 
--- the sums of the products that are the S-box's byte but for 0x63; its gates first
+-- the sums of the products that are the S-box's byte except for 0x63; its gates first
 unfoldable pub sums_gates : List Gate
 sums_gates =
     xor_of 15 16 ∷ xor_of 11 12 ∷ xor_of 7 15 ∷ xor_of 12 13 ∷ xor_of 6 16 ∷ xor_of 7 10 ∷ xor_of 13 14 ∷ xor_of 7 10 ∷

@@ -36,7 +36,7 @@ fn carried(x: u8x16) -> u8x16
     (u8x16::splat(0) - (x >> u8x16::splat(7))) & u8x16::splat(0x1B)
 }
 
-// The bytes times 02, but for what is carried.
+// The bytes times 02, except for what is carried.
 #[inline(always)]
 fn moved_up(x: u8x16) -> u8x16
     ensures { (k : ℕ) → k < 16 → slice_index result k ≡ slice_index x k * 2 % 256 }

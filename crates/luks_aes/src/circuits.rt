@@ -190,7 +190,7 @@ pub(crate) fn products(y: [u8x16; 22], t: [u8x16; 9]) -> [u8x16; 18]
     ]
 }
 
-// The sums of the products that are the S-box's byte but for 0x63.
+// The sums of the products that are the S-box's byte except for 0x63.
 #[inline(always)]
 pub(crate) fn sums(z: [u8x16; 18]) -> [u8x16; 8]
     ensures planes { ArePlanes result }

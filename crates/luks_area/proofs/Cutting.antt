@@ -1,4 +1,4 @@
--- Where the first element that passes stands, and what stands before it; printable bytes are ASCII.
+-- The place of the first element that passes, and what precedes it; printable bytes are ASCII.
 use Rattle.std.proofs.Common.{◌≡◌, ℕ, zero, suc, ◌≤◌, ◌<◌, Bool, true, nat_lt, nat_le, List, [], ◌∷◌, length, take, None, Some, position, sym, ap, arith, unwrap_or, lit<}
 use Rattle.std.specs.List.{before_first, position_or_len, list_all}
 use Rattle.std.specs.Str.{IsAscii}

@@ -1,4 +1,4 @@
--- Facts on what calls of a device touch, for the proofs of every crate that stands on this one.
+-- Facts on what calls of a device touch, for the proofs of every crate that depends on this one.
 use Rattle.std.proofs.Common.{◌≡◌, ℕ, ◌+◌, ◌≤◌, List, inl, inr, arith}
 use Rattle.luks_area.specs.Device.{IsSettled, IsUnchanged, Touches, no_place}
 use Rattle.luks_area.proofs.RangeFacts.{at-inside, same_but-then, same_but-wider}

@@ -1,4 +1,4 @@
--- Facts on the ranges of a volume, for the proofs of every crate that stands on this one.
+-- Facts on the ranges of a volume, for the proofs of every crate that depends on this one.
 use Rattle.std.proofs.Common.{◌≡◌, ℕ, ◌+◌, ◌-◌, ◌<◌, ◌≤◌, List, [], ◌++◌, ◌⊎◌, inl, inr, length, take, drop, get_or, min, refl, sym, ap, ◌∙◌, arith, append_assoc, length-append, length-drop}
 use Rattle.std.proofs.lemmas.List.{length-take, length-take-le, get_or-take, get_or-drop, drop-drop, take_all, append-nil, take-append-drop}
 use Rattle.std.proofs.Math.Seq.{take-add, take-length, take-append_seam, drop-append_seam}

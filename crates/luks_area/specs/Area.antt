@@ -38,7 +38,7 @@ name_number (Segment n) = n
 abbrev pub name_key : AreaName → List ℕ
 name_key n = name_kind n ∷ name_number n ∷ []
 
--- the name `m` stands before the name `n`
+-- the name `m` comes before the name `n`
 abbrev pub IsBefore : AreaName → AreaName → Type 0
 IsBefore m n = (name_kind m ≤ name_kind n) × (name_kind m ≡ name_kind n → name_number m < name_number n)
 

@@ -3,13 +3,13 @@
 -- the other as the fault's key, and keys are compared number by number.
 use Rattle.std.specs.Prelude.{◌≡◌, ℕ, ◌≤◌, List, [], ◌∷◌, Result, Ok, Err}
 
--- the key `xs` stands before the key `ys`, or is the same
+-- the key `xs` comes before the key `ys`, or is the same
 abbrev pub NotAfter : List ℕ → List ℕ → Type 0
 NotAfter [] ys = Unit {0}
 NotAfter (x ∷ xs) [] = ⊥
 NotAfter (x ∷ xs) (y ∷ ys) = (x ≤ y) × (x ≡ y → NotAfter xs ys)
 
--- `f` is a fault of the set, and no fault of the set stands before it
+-- `f` is a fault of the set, and no fault of the set comes before it
 abbrev pub IsLeast : {F : Type 0} → (F → List ℕ) → (F → Type 0) → F → Type 0
 IsLeast {F} key faults f = faults f × ((g : F) → faults g → NotAfter (key f) (key g))
 

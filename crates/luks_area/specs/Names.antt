@@ -10,7 +10,7 @@ abbrev pub HasArea : List Entry → AreaName → Area → Type 0
 HasArea [] n a = ⊥
 HasArea (e ∷ es) n a = ((e.name ≡ n) × (e.area ≡ a)) ⊎ HasArea es n a
 
--- each name stands before all later ones, so no name is there twice
+-- each name comes before all later ones, so no name is there twice
 abbrev pub IsIncreasing : List Entry → Type 0
 IsIncreasing [] = Unit {0}
 IsIncreasing (e ∷ es) = ((n : AreaName) (a : Area) → HasArea es n a → IsBefore e.name n) × IsIncreasing es

@@ -2,7 +2,7 @@
 use Rattle.std.specs.Prelude.{ℕ, List, Bool, ◌==◌, ◌&&◌, nat_le}
 use Rattle.std.specs.List.{before_first, list_all}
 
--- the text of a field: what stands before its first zero byte, or the whole field
+-- the text of a field: what precedes its first zero byte, or the whole field
 abbrev pub text_of : List ℕ → List ℕ
 text_of field = before_first (λ c. c == 0) field
 

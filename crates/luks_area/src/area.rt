@@ -60,7 +60,7 @@ impl fmt::Display for AreaName {
     }
 }
 
-/// Why areas don't fit into a volume. `Outside` stands before `Overlap`.
+/// Why areas don't fit into a volume. `Outside` comes before `Overlap`.
 #[derive(Debug, Clone, Copy, PartialEq, Eq)]
 pub enum AreaFault {
     /// The least name of an area that runs past the volume's end.

@@ -50,7 +50,7 @@ impl Areas {
         }
     }
 
-    /// Adds the area of `name`, which must stand after the names that are there. There is room for
+    /// Adds the area of `name`, which must follow the names that are there. There is room for
     /// 66; the area may lie anywhere, also past a volume's end.
     pub fn push(&mut self, name: AreaName, area: Area)
         requires room { length self.old < 66 }

@@ -28,7 +28,7 @@ impl Error for DeviceFault {}
 /// does, a file that others may write doesn't), its length, and its count of failed calls, which
 /// each failing call raises by one. No call may be made once the count is 2^64 - 1.
 ///
-/// A place is unsettled from when it is written until a flush has ended well, and what stands there
+/// A place is unsettled from when it is written until a flush has ended well, and what is there
 /// may be lost till then. So a power cut is a device of which the last write before the cut fails,
 /// whatever it leaves in its range and at the unsettled places, and of which no later call does
 /// anything; what is read after the cut is what was left. Not said by this are disks that lose bytes

@@ -8,7 +8,7 @@ use crate::device::{Device, DeviceFault};
 
 /// Writes `byte` over each byte of an area, in pieces of at most 512 bytes, and takes no memory.
 ///
-/// Where the device fails it stops, and the area holds anything. Nothing is flushed.
+/// If the device fails it stops, and the area holds anything. Nothing is flushed.
 pub fn fill<D: Device>(device: &mut D, area: Area, byte: u8) -> Result<(), DeviceFault>
     requires within { IsInside area (D.size device.old) }
     requires room { D.failed device.old + 1 < 2 ^ 64 }

@@ -3,7 +3,7 @@ ghost use Rattle.luks_area.specs.Text.{text_of, is_plain, is_printable};
 
 use std::str;
 
-/// The text of a header's field: what stands before its first zero byte, or the whole field (LUKS1
+/// The text of a header's field: what precedes its first zero byte, or the whole field (LUKS1
 /// On-Disk Format 1.2.3, 3.1, has such fields, and so has the LUKS2 On-Disk Format 1.1, 2.1).
 ///
 /// None where that text holds a byte outside 0x20 to 0x7E, which is this project's rule. What

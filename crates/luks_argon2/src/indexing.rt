@@ -89,7 +89,7 @@ pub(crate) fn reference(
     (other, start + place_in_window(count, low))
 }
 
-/// Where the block number n of a lane lies in the memory.
+/// The place of block number n of a lane in the memory.
 #[inline(always)]
 pub(crate) fn place_of(shape: Shape, lane: usize, n: usize) -> usize
     requires lane_in { lane < shape.lanes }

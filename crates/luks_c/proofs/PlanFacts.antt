@@ -25,7 +25,7 @@ use Rattle.luks_c_answers.specs.Plans.{Buffers, IsPlan, IsPlanGiven, IsPlanned}
 pub of_volume : (P : ℕ → List ℕ → ℕ → Type 0) (n total m : ℕ) (o w : List ℕ) → n ≡ total → o ≡ w → m ≡ total → P n o m → P total w total
 of_volume P n total m o w size target left holds = subst (λ k. P total w k) left (subst (λ t. P total t m) target (subst (λ k. P k o m) size holds))
 
--- a reply that is neither want of memory nor the device's failure is a refusal
+-- a reply that is neither a failed allocation nor the device's failure is a refusal
 pub refusal_of : (payload : Data) (v : List ℕ) (e : Edit) (random : List ℕ) (f : EditFault) (w : List ℕ) → f ≢ edit.Memory → is_edit_failure f ≡ false
     → Replies payload v e random (Err f) w → Refusal v payload e random f
 refusal_of payload v e random edit.Memory w other own replies = absurd (other refl)

@@ -35,7 +35,7 @@ asked_of_token parts v payload asked words text subsystem random to old new told
   | inr both ↦ inr (record { to = to; is = is; why = both.0; kept = both.1 })
 ]
 
--- why an edit isn't told is its first fault, where that is neither want of memory nor the device's failure
+-- why an edit isn't told is its first fault, where that is neither a failed allocation nor the device's failure
 pub untold_first : (v : List ℕ) (payload : Data) (e : Edit) (f : EditFault) → f ≢ edit.Memory → is_edit_failure f ≡ false → IsUntold v payload e f
     → IsLeast edit_key (IsNeedFault v payload e) f
 untold_first v payload e edit.Memory other own untold = absurd (other refl)

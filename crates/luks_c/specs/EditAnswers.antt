@@ -100,7 +100,7 @@ pub record IsRefusedBy (payload : Data) (v : List ℕ) (e : Edit) (random : List
   pub is : number ≡ edit_number fault
 
 -- 0 and 106 say that it is planned, 102 that another range has to be given, 103 that memory was refused, any other number
--- why it is refused; but for 0 the buffers are as they were
+-- why it is refused; except for 0 the buffers are as they were
 pub record AnswersEdit (parts : List Part) (v : List ℕ) (payload : Data) (e : Edit) (random : List ℕ) (old new : Buffers) (told : LuksPlan) (number : ℕ) : Type 0 where
   pub planned : number ≡ 0 → IsPlanned parts v (IsEdited payload v e random told.slot) old new told number
   pub room : number ≡ 106 → IsPlanned parts v (IsEdited payload v e random told.slot) old new told number

@@ -6,7 +6,7 @@ use Rattle.luks_c.specs.declared.reading.LuksRead.{LuksRead}
 use Rattle.luks_c.specs.ReadAnswers.{IsFaulty1, IsListing, IsUnreadBy}
 use Rattle.luks_c_answers.specs.Buffers.{filled}
 
--- the text of the token `n` stands in the front of the buffer; or the buffer is too short for it, and as it was
+-- the text of the token `n` is in the front of the buffer; or the buffer is too short for it, and as it was
 pub record IsTokenGiven (listing : Listing) (n : ℕ) (old new : List ℕ) (told : LuksRead) (number : ℕ) : Type 0 where
   pub text : List ℕ
   pub shown : IsShownToken listing n (Some text)

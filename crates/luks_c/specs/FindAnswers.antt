@@ -3,7 +3,7 @@ use Rattle.std.specs.Prelude.{◌≡◌, ◌⊎◌, ℕ, ◌<◌, ◌≤◌, Lis
 use Rattle.luks_finding.specs.Starts.{AreStarts}
 use Rattle.luks_c_answers.specs.Buffers.{filled}
 
--- the places stand in the front of the buffer; or it is too short for them, and as it was
+-- the places are in the front of the buffer; or it is too short for them, and as it was
 abbrev pub AreGiven : List ℕ → List ℕ → List ℕ → ℕ → Type 0
 AreGiven starts old new number = ((number ≡ 0) × (new ≡ filled old starts) × (length starts ≤ length old)) ⊎ ((number ≡ 106) × (new ≡ old) × (length old < length starts))
 

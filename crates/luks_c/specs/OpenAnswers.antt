@@ -8,7 +8,7 @@ use Rattle.luks_c.specs.declared.opening.LuksOpened.{LuksOpened}
 use Rattle.luks_c_answers.specs.Buffers.{filled}
 use Rattle.luks_c_answers.specs.Numbers.{open_number}
 
--- the key stands in the front of the buffer, as far as it fits: all of it, or none where the buffer is
+-- the key is in the front of the buffer, as far as it fits: all of it, or none where the buffer is
 -- empty; or the buffer has some bytes and too few, and is as it was
 abbrev pub IsGiven : List ℕ → List ℕ → List ℕ → ℕ → Type 0
 IsGiven key old new number = ((number ≡ 0) × (new ≡ filled old key) × ((length old ≡ 0) ⊎ (length key ≤ length old)))
@@ -27,7 +27,7 @@ pub record IsRefused (refusal : OpenFault → Type 0) (number : ℕ) : Type 0 wh
   pub is : refusal fault
   pub number_is : number ≡ open_number fault
 
--- 105 says that the passphrase opens none, 0 and 106 that it opens one, any other number why it isn't tried; but for 0
+-- 105 says that the passphrase opens none, 0 and 106 that it opens one, any other number why it isn't tried; except for 0
 -- the buffer for the key is as it was
 pub record Answers (opens_by : ℕ → List ℕ → Type 0) (shut : Type 0) (refusal : OpenFault → Type 0) (old new : List ℕ) (opened : LuksOpened) (number : ℕ) : Type 0 where
   pub opened_ : number ≡ 0 → IsOpened opens_by old new opened number

@@ -21,7 +21,7 @@ abbrev pub IsListing : List ℕ → Listing → Type 0
 IsListing v (Luks1 header) = Chosen v luks1 × IsLuks1 (part v 0 592) header
 IsListing v (Luks2 copy) = IsChosenCopy v copy
 
--- the text of the listing stands in the front of the buffer; or the buffer is too short for it, and as it was
+-- the text of the listing is in the front of the buffer; or the buffer is too short for it, and as it was
 pub record IsTextGiven (listing : Listing) (old new : List ℕ) (told : LuksRead) (number : ℕ) : Type 0 where
   pub text : List ℕ
   pub is : IsJsonText listing text

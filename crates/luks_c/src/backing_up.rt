@@ -96,7 +96,7 @@ pub extern "C" fn luks_backup_length_bytes(
     length_given::<Brand>(alloc, parts, held, total, data_of(is_detached), told)
 }
 
-/// The same of the volume `K`, of which these are given.
+/// The length for the volume `K`, of which these ranges are given.
 fn length_given<K: Given>(
     alloc: Global,
     parts: &[Part],

@@ -54,7 +54,7 @@ pub extern "C" fn luks_check_bytes(
     check_given::<Brand>(alloc, parts, held, total, data_of(is_detached), report)
 }
 
-/// The same of the volume `K`, of which these are given; the report is empty before.
+/// Checks the volume `K`, of which these ranges are given; the report is empty before.
 fn check_given<K: Given>(
     alloc: Global,
     parts: &[Part],

@@ -67,7 +67,7 @@ pub extern "C" fn luks_apply_bytes(
     }
 }
 
-/// The same of the volume `K`, of which these are given, and the token of this text.
+/// Adds the token of this text to the volume `K`, of which these ranges are given.
 fn add_token<K: Given>(
     alloc: Global,
     parts: &[Part],
@@ -103,7 +103,7 @@ fn add_token<K: Given>(
     }
 }
 
-/// The same of the volume `K`, of which these are given, and this edit.
+/// Plans this edit of the volume `K`, of which these ranges are given.
 #[tactic(auto, using(crate::proofs::PlanFacts::edit_refused, crate::proofs::PlanFacts::edit_unplanned))]
 fn apply_given<K: Given>(
     alloc: Global,

@@ -43,7 +43,7 @@ pub extern "C" fn luks_token_bytes(
     export_given::<Brand>(alloc, parts, held, total, number, text, told)
 }
 
-/// The same of the volume `K`, of which these are given.
+/// Exports from the volume `K`, of which these ranges are given.
 fn export_given<K: Given>(
     alloc: Global,
     parts: &[Part],

@@ -45,7 +45,7 @@ pub extern "C" fn luks_find_bytes(
     find_given::<Brand>(alloc, parts, held, total, starts, told)
 }
 
-/// The same of the disk `K`, of which these are given.
+/// Finds volumes on the disk `K`, of which these ranges are given.
 fn find_given<K: Given>(
     alloc: Global,
     parts: &[Part],

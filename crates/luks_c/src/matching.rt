@@ -60,7 +60,7 @@ pub extern "C" fn luks_meets_bytes(
     )
 }
 
-/// The same of the volume `K`, of which these are given.
+/// Tells whether the key is that of the volume `K`, of which these ranges are given.
 fn meets_given<K: Given>(
     alloc: Global,
     parts: &[Part],

@@ -67,7 +67,7 @@ pub extern "C" fn luks_needed_bytes(
     }
 }
 
-/// The same of the volume `K`, of which these are given, and the token of this text.
+/// Tells what adding the token of this text to the volume `K` needs. These ranges of it are given.
 fn need_token<K: Given>(
     alloc: Global,
     parts: &[Part],
@@ -124,7 +124,7 @@ pub(crate) fn refuse_text<K: Given>(
     }
 }
 
-/// The same of the volume `K`, of which these are given, and this edit.
+/// Tells what this edit of the volume `K` needs. These ranges of it are given.
 fn need_given<K: Given>(
     alloc: Global,
     parts: &[Part],

@@ -55,7 +55,7 @@ pub extern "C" fn luks_unlock_bytes(
     unlock_given::<Brand>(alloc, parts, held, total, passphrase, allowed, key, opened)
 }
 
-/// The same of the volume `K`, of which these are given, where the passphrase is short.
+/// Unlocks the volume `K`, of which these ranges are given, by a passphrase that is short enough.
 fn unlock_given<K: Given>(
     alloc: Global,
     parts: &[Part],
@@ -116,7 +116,7 @@ pub extern "C" fn luks_open_bytes(
     )
 }
 
-/// The same of the volume `K`, of which these are given, where the passphrase is short.
+/// Opens a keyslot of the volume `K`, of which these ranges are given, by a passphrase that is short enough.
 fn open_given<K: Given>(
     alloc: Global,
     parts: &[Part],

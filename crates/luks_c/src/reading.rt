@@ -46,7 +46,7 @@ pub extern "C" fn luks_read_bytes(
     read_given::<Brand>(alloc, parts, held, total, json, told)
 }
 
-/// The same of the volume `K`, of which these are given.
+/// Lists the volume `K`, of which these ranges are given.
 fn read_given<K: Given>(
     alloc: Global,
     parts: &[Part],

@@ -1,4 +1,4 @@
-//! Making a LUKS1 header of what still stands of one.
+//! Making a LUKS1 header of what is left of one.
 ghost use Rattle.std.specs.Prelude.{◌≡◌, ◌≢◌, ◌⊎◌, ◌↔◌, ◌≤◌, ◌<◌, length};
 ghost use Rattle.luks_given.specs.Parts.{AreNoParts, volume};
 ghost use Rattle.luks_c_answers.specs.Plans.{WantsEither};
@@ -11,7 +11,7 @@ use luks_given::{Part, PlannedCall, are_parts};
 use std::alloc::Global;
 use std::marker::Brand;
 
-/// Plans a detached LUKS1 header of what still stands of one in the source, and of what is given, on the
+/// Plans a detached LUKS1 header of what is left of one in the source, and of what is given, on the
 /// target. Of both ranges are given; `luks_apply_bytes` says what a plan is.
 ///
 /// A text has no byte where none is given; a number is 2^32 - 1. Takes memory for the plan.

@@ -24,7 +24,7 @@ pub struct LuksSignature {
 
 /// Tells what the signatures among the first `len` bytes show of the disk of `total` bytes of which these
 /// ranges are given: a partition table, a file system or another use, by the first row of the table that
-/// stands there.
+/// is there.
 #[unsafe(no_mangle)]
 pub extern "C" fn luks_signature_bytes(
     parts: &[Part],
@@ -45,7 +45,7 @@ pub extern "C" fn luks_signature_bytes(
     find_given::<Brand>(parts, held, total, len, told)
 }
 
-/// The same of the disk `K`, of which these are given.
+/// Finds a signature on the disk `K`, of which these ranges are given.
 fn find_given<K: Given>(
     parts: &[Part],
     held: &[u8],

@@ -23,7 +23,7 @@ pub extern "C" fn luks_fault_name(number: u32, buffer: &mut [u8]) -> usize
 
 /// Puts what is said of the number into the buffer, as far as it fits, and answers how many bytes it
 /// has: by `part` 1 what it means, 2 where it can stand, 3 what is still safe, 4 what to try next.
-/// Where nothing is said, it has none. A line that goes on does so behind a newline and seven spaces.
+/// If nothing is said, it has none. A line that goes on does so behind a newline and seven spaces.
 #[tactic(auto, using(luks_c_answers::proofs::BufferFacts::filled_behind))]
 #[unsafe(no_mangle)]
 pub extern "C" fn luks_fault_text(number: u32, part: u32, buffer: &mut [u8]) -> usize

@@ -6,7 +6,7 @@ use Rattle.std.proofs.lemmas.Bool.{cases_lt}
 use Rattle.luks_area.specs.Ranges.{written}
 use Rattle.luks_c_answers.specs.Buffers.{filled}
 
--- so is what stands behind the bytes, fit they or not
+-- so is what follows the bytes, fit they or not
 pub filled_behind : (buffer bytes : List ℕ) → drop (length bytes) (filled buffer bytes) ≡ drop (length bytes) buffer
 filled_behind buffer bytes = elim (cases_lt (length buffer) (length bytes)) [
   | inl long ↦

@@ -115,7 +115,7 @@ edit_number_other (edit.BadToken f) own = λ e. let high = (number_printed_range
 edit_number_other edit.Device own = absurd (true≢false own)
 edit_number_other f own = λ e. absurd (omega (arith, e))
 
--- the number 103 is that of want of memory
+-- the number 103 is that of a failed allocation
 pub edit_number_memory : (f : EditFault) → edit_number f ≢ 103 → f ≢ edit.Memory
 edit_number_memory f other = λ is. other (ap edit_number is)
 

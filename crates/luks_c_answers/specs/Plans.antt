@@ -28,7 +28,7 @@ pub record Buffers : Type 0 where
   pub calls : List PlannedCall
   pub bytes : List ℕ
 
--- the plan stands in the front of the buffers; or one of them is too short for it, and both are as they were
+-- the plan is in the front of the buffers; or one of them is too short for it, and both are as they were
 abbrev pub IsPlanGiven : List PlannedCall → List ℕ → Buffers → Buffers → ℕ → Type 0
 IsPlanGiven calls bytes old new number =
     ((number ≡ 0) × (new.calls ≡ filled old.calls calls) × (new.bytes ≡ filled old.bytes bytes) × (length calls ≤ length old.calls) × (length bytes ≤ length old.bytes))
@@ -44,7 +44,7 @@ pub record IsPlanned (parts : List Part) (v : List ℕ) (such : List ℕ → Typ
   pub given : IsPlanGiven calls bytes old new number
 
 -- what a call answers that writes by a plan. 0 and 106 say that it is planned, and that nothing is against it; 102 that another
--- range has to be given, 103 that memory was refused, any other number why it is refused; but for 0 the buffers are as
+-- range has to be given, 103 that memory was refused, any other number why it is refused; except for 0 the buffers are as
 -- they were
 pub record AnswersPlan (parts : List Part) (v : List ℕ) (faultless : Type 0) (refusal : ℕ → Type 0) (such : List ℕ → Type 0) (old new : Buffers) (told : LuksPlan) (number : ℕ) : Type 0 where
   pub planned : number ≡ 0 → faultless × IsPlanned parts v such old new told number

@@ -29,7 +29,7 @@ pub struct LuksDerivation {
     pub lanes: u32,
 }
 
-/// An edit of a volume, but for its secrets and its texts.
+/// An edit of a volume, except for its secrets and its texts.
 #[repr(C)]
 #[derive(Clone, Copy, Drop)]
 pub struct LuksEdit {
@@ -247,7 +247,7 @@ fn slot_of(number: u32) -> Result<u8, Unasked>
     }
 }
 
-/// The same, or none.
+/// The keyslot that the number names, or none.
 fn maybe_slot(number: u32) -> Result<Option<u8>, Unasked>
     ensures { MatchResult result (IsMaybeSlot number)
         (λ _. (n : Option ℕ) → IsMaybeSlot number n → ⊥) }

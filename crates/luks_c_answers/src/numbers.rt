@@ -16,7 +16,7 @@ use luks1_rebuilding::Rebuild1Fault;
 /// Done: the volume is accepted, the keyslot opens, the text or the plan is given.
 pub const DONE: u32 = 0;
 
-/// No fault: the device's failure and want of memory have numbers of their own, and are never told by
+/// No fault: the device's failure and a failed allocation have numbers of their own, and are never told by
 /// this one.
 const UNKNOWN: u32 = 99;
 

@@ -81,7 +81,7 @@ pub fn tell_wanted<K: Given>(device: &PlannedWrites<'_, K>, told: &mut LuksPlan)
     }
 }
 
-/// The same of a call that read the source, and wrote the device: one of the two failed.
+/// Tells what a call wanted that read the source and wrote the device: one of the two failed.
 pub fn tell_either<S: Given, K: Given>(
     source: &GivenParts<'_, S>,
     device: &PlannedWrites<'_, K>,

@@ -17,7 +17,7 @@ pub fn number_name(number: u32) -> &'static str
 }
 
 /// What is said of the number: by `part` 1 what it means, 2 where it can stand, 3 what is still safe, 4
-/// what to try next. Where nothing is said, it has no byte: by another part, and by the last three of a
+/// what to try next. If nothing is said, it has no byte: by another part, and by the last three of a
 /// number that is no fault's.
 pub fn number_text(number: u32, part: u32) -> &'static str
     ensures none { part ≡ 0 → result.now ≡ [] }

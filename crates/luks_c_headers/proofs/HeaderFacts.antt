@@ -39,7 +39,7 @@ of_volumes P u v n total m o w source size target left holds =
 pub fault_of_volume : (P : List ℕ → ℕ → Type 0) (u v : List ℕ) (n total : ℕ) → u ≡ v → n ≡ total → P u n → P v total
 fault_of_volume P u v n total source size holds = subst (λ k. P v k) size (subst (λ s. P s n) source holds)
 
--- a fault that is neither want of memory nor a device's failure is the first
+-- a fault that is neither a failed allocation nor a device's failure is the first
 pub convert_refusal : (v : List ℕ) (payload : Data) (total : ℕ) (random : List ℕ) (f : ConvertFault) → f ≢ convert.Memory → is_convert_failure f ≡ false
     → IsAnsweredConvert v payload total random f → IsLeast convert_key (IsConvertFault v payload total random) f
 convert_refusal v payload total random convert.Memory other own answered = absurd (other refl)

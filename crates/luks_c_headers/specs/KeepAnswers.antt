@@ -91,7 +91,7 @@ abbrev pub key_number : Bool → ℕ
 key_number true = 1
 key_number false = 0
 
--- the numbers of the keyslots below `n` stand in the buffer's front, and from there on it is as it was
+-- the numbers of the keyslots below `n` are in the buffer's front, and from there on it is as it was
 pub record TellsKeyslots (keyslots : List Keeping) (n : ℕ) (old new : List ℕ) : Type 0 where
   pub long : length new ≡ length old
   pub each : (k : ℕ) → k < n → slice_index_or new k 0 ≡ keeping_number (slice_index_or keyslots k Absent)

@@ -98,7 +98,7 @@ abbrev pub IsNoneGivenBy : List ℕ → List ℕ → List ℕ → List ℕ → �
 IsNoneGivenBy cipher_name cipher_mode hash uuid key_bytes payload =
     (given : Given) → IsGivenBy cipher_name cipher_mode hash uuid key_bytes payload given → ⊥
 
--- `w` is the target `old` with the header that is made of what stands in the volume `v`: each kept keyslot that is in use
+-- `w` is the target `old` with the header that is made of what is in the volume `v`: each kept keyslot that is in use
 -- gives what the equations give for its entry, its area and the digest
 pub record IsRebuilt1To (v : List ℕ) (given : Given) (old w : List ℕ) : Type 0 where
   pub rebuilt : IsRebuilt1 v given old w

@@ -21,7 +21,7 @@ pub struct LuksCompared {
     /// With the answer BEYOND, the range of the backup that has to be given; it has no byte where one of the
     /// volume is asked for.
     pub backup_beyond: Part,
-    /// The same of the volume.
+    /// The range that is wanted of the volume.
     pub beyond: Part,
 }
 

@@ -1,4 +1,4 @@
-//! Making a LUKS1 header of what still stands of one.
+//! Making a LUKS1 header of what is left of one.
 ghost use Rattle.std.specs.Prelude.{◌≡◌, ◌≢◌};
 ghost use Rattle.luks_given.specs.Parts.{AreGiven};
 ghost use Rattle.luks_c_answers.specs.Plans.{WantsEither};
@@ -9,7 +9,7 @@ use luks_given::{Given, GivenParts, Part, PlannedCall, PlannedWrites};
 use luks1_rebuilding::{Given as Fields, Rebuild1Fault, rebuild1};
 use std::alloc::Global;
 
-/// Plans a detached LUKS1 header of what still stands of one, and of these fields, as `convert_given`
+/// Plans a detached LUKS1 header of what is left of one, and of these fields, as `convert_given`
 /// does one of a LUKS1 volume.
 pub fn rebuild1_given<S: Given, K: Given>(
     alloc: Global,

@@ -46,7 +46,7 @@ same_by (Err RandomLength) faults held same = λ apart. same RandomLength held.0
 same_by (Err Memory) faults held same = λ apart. absurd held
 same_by (Err Device) faults held same = λ apart. absurd (apart refl)
 
--- and where want of memory does
+-- and where a failed allocation does
 pub same_or_memory_by : {D Same : Type 0} (result : Result D FormatFault) (faults : FormatFault → Type 0)
     → IfErr result (IsAnsweredFaultOrMemory faults)
     → ((f : FormatFault) → faults f → Same) → (result ≡ Err Memory → Same) → IfErr result (λ f. f ≢ Device → Same)

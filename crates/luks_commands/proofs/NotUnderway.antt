@@ -1,4 +1,4 @@
--- Where the narrow reading reads the header, or refuses the selection of a copy or its uuid, nothing is under way.
+-- If the narrow reading reads the header, or refuses the selection of a copy or its uuid, nothing is under way.
 use Rattle.std.proofs.Common.{◌≡◌, ℕ, List, subst}
 use Rattle.luks1_header.specs.declared.fault.HeadFault.{HeadFault}
 use Rattle.luks2_header.specs.Selection.{Choice, luks1, luks2, Chosen}

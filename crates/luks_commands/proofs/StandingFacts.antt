@@ -67,7 +67,7 @@ pub wordless_answers : (Other : Type 0) (v : List ℕ) (is_long : Type 0) (unrea
 wordless_answers Other v is_long unread a (inl said) = subst (IsBarAnswer Other v) (sym said.0) tt
 wordless_answers Other v is_long unread a (inr said) = subst (IsBarAnswer Other v) (sym said.2) (unread_answers Other v said.0)
 
--- where nothing does, nothing stands there
+-- where nothing does, nothing is there
 pub clear_none : {P : Type 0} (over : Bool) (Other : Type 0) (v : List ℕ) → IsClear over Other v → over ≡ false → Other ⊎ (IsReencrypting v ⊎ ((found : Use) × HasUse v found)) → P
 clear_none over Other v clear is (inl other) = absurd (clear.volume is other)
 clear_none over Other v clear is (inr (inl reencrypting)) = absurd (clear.reencryption is reencrypting)

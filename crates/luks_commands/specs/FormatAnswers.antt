@@ -66,7 +66,7 @@ pub record IsMaking (tells : Type 0) (making : Making) (HasWords HasKey HasRando
 abbrev pub IsUnreadAny : {R N : Type 0} → Result R InputFault → Result R InputFault → ℕ → Result N InputFault → InputFault → Type 0
 IsUnreadAny passphrase key count random f = IsUnread passphrase f ⊎ (IsUnread key f ⊎ IsUnreadRandom count random f)
 
--- what stands on the volume bars it: another use, or any accepted LUKS header
+-- what is on the volume bars it: another use, or any accepted LUKS header
 abbrev pub IsBarredFormat : Type 0 → Making → List ℕ → List ℕ → ℕ → ℕ → Answer → Type 0
 IsBarredFormat tells making old new before after a =
     IsHeldBack tells (IsBar tells making.over (HasOther None old) old) (λ is_failure. after ≡ count_after is_failure before) old new a

@@ -62,7 +62,7 @@ IsOneAnswer tells allowed v n p before after DeviceFault = after ≡ before + 1
 IsOneAnswer tells allowed v n p before after NoMemory = (after ≡ before) × (tells → NeedsMetadata v)
 IsOneAnswer tells allowed v n p before after a = ⊥
 
--- Where none is named: the first that opens. Where a call failed, that is all that is answered, or the keyslots have been tried one
+-- If none is named: the first that opens. If a call failed, that is all that is answered, or the keyslots have been tried one
 -- by one besides: then the first opens that isn't lost by a further failed call, or none does.
 abbrev pub IsAnyAnswer : Type 0 → Allowed → List ℕ → List ℕ → ℕ → ℕ → Answer → Type 0
 IsAnyAnswer tells allowed v p before after (Opens n) =

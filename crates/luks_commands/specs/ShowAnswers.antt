@@ -97,7 +97,7 @@ IsHeaderAnswer h (Listed listing) = (v : List ℕ) → IsHeader v h → IsShown 
 IsHeaderAnswer h (Refused (Check f)) = (v : List ℕ) → IsHeader v h → IsFirstShowFault v f
 IsHeaderAnswer h a = ⊥
 
--- with all that its lines may tell: the same but for the form
+-- with all that its lines may tell: the same except for the form
 abbrev pub IsFullAnswer : Type 0 → List ℕ → ℕ → ℕ → Answer → Type 0
 IsFullAnswer tells v before after (ListedFully listing) = (after ≡ before) × (tells → IsShown v listing.0)
 IsFullAnswer tells v before after (Refused (Check f)) = (after ≡ before) × (tells → IsFirstShowFault v f)
@@ -105,7 +105,7 @@ IsFullAnswer tells v before after DeviceFault = after ≡ before + 1
 IsFullAnswer tells v before after NoMemory = (after ≡ before) × (tells → NeedsMetadata v)
 IsFullAnswer tells v before after a = ⊥
 
--- as a map: the same but for the form
+-- as a map: the same except for the form
 abbrev pub IsMapAnswer : Type 0 → List ℕ → ℕ → ℕ → Answer → Type 0
 IsMapAnswer tells v before after (Mapped m) = (after ≡ before) × (tells → IsShownAsMap v m)
 IsMapAnswer tells v before after (Refused (Check f)) = (after ≡ before) × (tells → IsFirstShowFault v f)
@@ -113,7 +113,7 @@ IsMapAnswer tells v before after DeviceFault = after ≡ before + 1
 IsMapAnswer tells v before after NoMemory = (after ≡ before) × (tells → NeedsMetadata v)
 IsMapAnswer tells v before after a = ⊥
 
--- its tokens: the same but for the form
+-- its tokens: the same except for the form
 abbrev pub IsTokensAnswer : Type 0 → List ℕ → ℕ → ℕ → Answer → Type 0
 IsTokensAnswer tells v before after (Tokens listing) = (after ≡ before) × (tells → IsShown v listing.0)
 IsTokensAnswer tells v before after (Refused (Check f)) = (after ≡ before) × (tells → IsFirstShowFault v f)
@@ -130,7 +130,7 @@ IsTokenAnswer n tells v before after DeviceFault = after ≡ before + 1
 IsTokenAnswer n tells v before after NoMemory = after ≡ before
 IsTokenAnswer n tells v before after a = ⊥
 
--- as JSON: the same but for the form, and that the object takes memory of either version
+-- as JSON: the same except for the form, and that the object takes memory of either version
 abbrev pub IsJsonAnswer : Type 0 → List ℕ → ℕ → ℕ → Answer → Type 0
 IsJsonAnswer tells v before after (Json text) = (after ≡ before) × (tells → IsShownAsJson v (string_bytes text))
 IsJsonAnswer tells v before after (Refused (Check f)) = (after ≡ before) × (tells → IsFirstShowFault v f)

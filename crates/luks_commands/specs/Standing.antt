@@ -1,4 +1,4 @@
--- What stands on a disk that a command would write over: another use, an accepted LUKS header of another volume, or the metadata of a reencryption.
+-- What is on a disk that a command would write over: another use, an accepted LUKS header of another volume, or the metadata of a reencryption.
 use Rattle.std.specs.Prelude.{◌≡◌, ◌≢◌, ◌⊎◌, ℕ, List, Option, Some, None, Bool, true, false, Result, Ok, Err, ⊤}
 use Rattle.luks_area.specs.Device.{count_after}
 use Rattle.luks2_header.specs.Selection.{nothing, Choice, Chosen}
@@ -60,7 +60,7 @@ IsBar tells over Other v Reencrypting = (over ≡ false) × (tells → IsReencry
 IsBar tells over Other v Memory = (over ≡ false) × (tells → NeedsMetadata v ⊎ IsUnaskedMetadata v)
 IsBar tells over Other v Device = ⊤
 
--- why it isn't told whether an accepted header stands on the disk `v`: a word of private contracts
+-- why it isn't told whether an accepted header is on the disk `v`: a word of private contracts
 abbrev pub IsUnasked : Type 0 → List ℕ → Bar → Type 0
 IsUnasked tells v Memory = tells → NeedsMetadata v
 IsUnasked tells v Device = ⊤
@@ -94,7 +94,7 @@ pub record IsHeldBack (tells : Type 0) (Bars : Bar → Type 0) (counts : Bool �
   pub same : tells → new ≡ old
   pub is : a ≡ bar_answer bar
 
--- what is answered where the disk `v` isn't to be written over: what stands there, unless a call fails, a file can't be read,
+-- what is answered where the disk `v` isn't to be written over: what is there, unless a call fails, a file can't be read,
 -- memory is refused, the passphrase is too long or the target is the volume itself
 abbrev pub IsBarAnswer : Type 0 → List ℕ → Answer → Type 0
 IsBarAnswer Other v (Refused (refusal.OtherUse found)) = HasUse v found
@@ -106,7 +106,7 @@ IsBarAnswer Other v DeviceFault = ⊤
 IsBarAnswer Other v NoMemory = ⊤
 IsBarAnswer Other v a = ⊥
 
--- where such a volume, a reencryption or another use stands on the disk `v`, that may not be written over, no byte of it
+-- where such a volume, a reencryption or another use is on the disk `v`, that may not be written over, no byte of it
 -- changes, and this is answered
 abbrev pub HoldsBack : Bool → Type 0 → List ℕ → List ℕ → Answer → Type 0
 HoldsBack over Other v w a = over ≡ false → Other ⊎ (IsReencrypting v ⊎ ((found : Use) × HasUse v found)) → (w ≡ v) × IsBarAnswer Other v a

@@ -55,7 +55,7 @@ pub enum Refusal {
     Convert(ConvertFault),
     /// No header is made of the volume's metadata.
     Rebuild(RebuildFault),
-    /// No header is made of what still stands of a LUKS1 header.
+    /// No header is made of what is left of a LUKS1 header.
     Rebuild1(Rebuild1Fault),
     /// No backup of the volume's header is made.
     Backup(BackupFault),
@@ -67,9 +67,9 @@ pub enum Refusal {
     Exists,
     /// The disk has another use by now, which would be written over.
     OtherUse(OtherUse),
-    /// Another volume's header stands on what would be written over.
+    /// Another volume's header is on what would be written over.
     OtherVolume,
-    /// The metadata of a reencryption stands on what would be written over.
+    /// The metadata of a reencryption is on what would be written over.
     Reencrypting,
     /// Something is under way in the volume's metadata.
     Underway(UnderwayRefusal),
@@ -140,7 +140,7 @@ pub enum Answer {
     Done(Option<u8>),
     /// How a backup stands to the volume.
     Compared(Comparison),
-    /// The backup is made, but for the key areas of these keyslots, which couldn't be read in full.
+    /// The backup is made, except for the key areas of these keyslots, which couldn't be read in full.
     Rescued(LostKeyslots),
     /// The command is refused.
     Refused(Refusal),

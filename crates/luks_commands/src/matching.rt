@@ -46,7 +46,7 @@ pub fn run<D: Device, R: Read, N: Read, E: Write>(
     }
 }
 
-/// The same of a volume that is there.
+/// Judges the key by a volume that is there.
 fn match_device<D: Device, E: Write>(
     alloc: Global,
     device: &mut D,

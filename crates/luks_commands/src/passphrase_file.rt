@@ -82,7 +82,7 @@ pub fn first_line<R: Read>(alloc: Global, reader: &mut R) -> Result<Secret, Inpu
     Ok(secret)
 }
 
-/// Keeps what stands before the first newline.
+/// Keeps what precedes the first newline.
 fn cut_at_newline(bytes: &mut Vec<u8>)
     ensures { bytes.new.items ≡ first_line bytes.old.items }
 {

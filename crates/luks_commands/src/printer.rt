@@ -21,7 +21,7 @@ pub trait Printer {
     /// How many prints have failed.
     ghost failures: { Self → ℕ };
 
-    /// Prints the text as `{}` writes it. Where it fails, a part of it may be printed.
+    /// Prints the text as `{}` writes it. If it fails, a part of it may be printed.
     fn print<T: Display>(&mut self, text: &T) -> Result<(), Unprinted>
         requires { failures self.old + 1 < 2 ^ 64 }
         ensures count { CountsPrint result (failures self.old) (failures self.new) }

@@ -31,7 +31,7 @@ struct JsonPlace {
     len: u64,
 }
 
-/// Whether the volume is in the midst of a reencryption: one of LUKS1 by what stands in the place of its
+/// Whether the volume is in the midst of a reencryption: one of LUKS1 by what is in the place of its
 /// magic, one of LUKS2 by its metadata.
 ///
 /// Takes memory for the JSON area and its value.
@@ -50,7 +50,7 @@ pub fn is_reencrypting<D: Device>(alloc: Global, device: &mut D) -> Result<bool,
     is_reencrypting_luks2(alloc, device)
 }
 
-/// The same of LUKS2: by the metadata of the copy that counts, or, where no header counts, by what stands
+/// Whether a LUKS2 volume is: by the metadata of the copy that counts, or, if no header counts, by the bytes
 /// where the first copy of the least size has it.
 fn is_reencrypting_luks2<D: Device>(alloc: Global, device: &mut D) -> Result<bool, Bar>
     requires { D.failed device.old + 1 < 2 ^ 64 }
@@ -67,7 +67,7 @@ fn is_reencrypting_luks2<D: Device>(alloc: Global, device: &mut D) -> Result<boo
     }
 }
 
-/// Where the JSON area of the metadata is.
+/// The place of the JSON area of the metadata.
 fn json_place<D: Device>(device: &mut D) -> Result<Option<JsonPlace>, DeviceFault>
     requires { D.failed device.old + 1 < 2 ^ 64 }
     ensures unchanged { IsUnchanged D.tells D.size D.bytes D.unsettled device.old device.new }

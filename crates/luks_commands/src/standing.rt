@@ -1,4 +1,4 @@
-//! What stands on a device that a command would write over.
+//! What is on a device that a command would write over.
 ghost use Rattle.std.specs.Prelude.{◌≡◌, ◌≢◌, ◌↔◌, ◌+◌, ◌<◌, ◌^◌, IfErr, IfOk, IsTrue, OnOk, Some};
 ghost use Rattle.luks_area.specs.Device.{CountsFailure, IsUnchanged, is_failure};
 ghost use Rattle.luks_reading.specs.Header.{IsAcceptedHeader};
@@ -17,19 +17,19 @@ use luks1_header::fields::field;
 use std::alloc::Global;
 use std::io::Write;
 
-/// Where the uuid's field of a LUKS1 header stands.
+/// The place of the uuid's field of a LUKS1 header.
 const UUID: usize = 168;
 
 const UUID_END: usize = 208;
 
-/// Why a command doesn't write over what stands on a device.
+/// Why a command doesn't write over what is on a device.
 #[derive(Clone, Copy)]
 pub enum Bar {
     /// The disk has this other use.
     OtherUse(OtherUse),
-    /// Another volume's header stands there.
+    /// Another volume's header is there.
     OtherVolume,
-    /// The metadata of a reencryption stands there.
+    /// The metadata of a reencryption is there.
     Reencrypting,
     /// Memory was refused, for its metadata.
     Memory,
@@ -61,7 +61,7 @@ impl From<Bar> for Answer {
     }
 }
 
-/// What is answered where a command is barred by what stands on the file of this name.
+/// What is answered where a command is barred by what is on the file of this name.
 #[tactic(auto, using(crate::proofs::StandingFacts::bar_kinds, crate::proofs::StandingFacts::bar_undone))]
 pub fn held_back<E: Write>(bar: Bar, file: &str, err: &mut E) -> Answer
     ensures answer { result ≡ bar_answer bar }
@@ -74,8 +74,8 @@ pub fn held_back<E: Write>(bar: Bar, file: &str, err: &mut E) -> Answer
     }
 }
 
-/// Refuses where an accepted LUKS header stands on the device whose uuid's field isn't this one, where the
-/// metadata of a reencryption does, or where the disk has another use. Where it may be written over nothing is asked, so that a place that can't be
+/// Refuses where an accepted LUKS header is on the device whose uuid's field isn't this one, where the
+/// metadata of a reencryption does, or where the disk has another use. If it may be written over nothing is asked, so that a place that can't be
 /// read stops nothing.
 ///
 /// Takes memory for the metadata of LUKS2 alone.
@@ -105,7 +105,7 @@ pub fn judge_standing<D: Device>(
     }
 }
 
-/// Refuses where an accepted LUKS header stands there whose uuid's field isn't this one, or the metadata of a
+/// Refuses where an accepted LUKS header is there whose uuid's field isn't this one, or the metadata of a
 /// reencryption.
 fn judge_headers<D: Device>(
     alloc: Global,
@@ -141,7 +141,7 @@ pub fn standing_use_of<D: Device>(device: &mut D) -> Result<Option<OtherUse>, De
     first_use(device, all)
 }
 
-/// Whether an accepted header stands there whose uuid's field isn't this one.
+/// Whether an accepted header is there whose uuid's field isn't this one.
 fn has_other<D: Device>(alloc: Global, device: &mut D, uuid: Option<[u8; 40]>) -> Result<bool, Bar>
     requires { D.failed device.old + 1 < 2 ^ 64 }
     ensures unchanged { IsUnchanged D.tells D.size D.bytes D.unsettled device.old device.new }

@@ -1,4 +1,4 @@
--- Where what is under way contradicts itself: a test for each path (LUKS2 On-Disk Format 1.1.3, 3.3, 4.9 and 4.10, and what cryptsetup 2.6 demands).
+-- How what is under way may contradict itself: a test for each path (LUKS2 On-Disk Format 1.1.3, 3.3, 4.9 and 4.10, and what cryptsetup 2.6 demands).
 -- `Consistent` says when none stands.
 use Rattle.std.specs.Prelude.{ℕ, zero, suc, ◌+◌, List, codes, Bool, true, false, ◌&&◌, ◌||◌, ◌==◌, not, nat_lt, nat_le, Option, Some, None, option_and_then, option_map}
 use Rattle.std.specs.Option.{option_map_or}

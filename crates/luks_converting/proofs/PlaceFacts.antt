@@ -1,4 +1,4 @@
--- Where the new areas stand.
+-- The place of the new areas.
 use Rattle.std.proofs.Common.{◌≡◌, ℕ, zero, suc, ◌+◌, ◌-◌, ◌<◌, ◌≤◌, List, true, subst, ap, arith}
 use Rattle.luks_making.specs.Converted.{area_start, taken_size}
 use Rattle.luks_converting.specs.Converted.{new_size, new_start}

@@ -114,7 +114,7 @@ module _
 
 -- ---- what is answered of an accepted source
 
--- a fault that is the first, and neither want of memory nor a device's
+-- a fault that is the first, and neither a failed allocation nor a device's
 pub answered_first : (v : List ℕ) (payload : Data) (total : ℕ) (random : List ℕ) (f : ConvertFault) → f ≢ Memory → is_convert_failure f ≡ false
     → IsLeast convert_key (IsConvertFault v payload total random) f → IsAnsweredFault v payload total random f
 answered_first v payload total random Memory memory own x = absurd (memory refl)

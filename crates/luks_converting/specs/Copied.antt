@@ -28,7 +28,7 @@ pub record IsSameDigest (a b : DigestPlan) : Type 0 where
   pub salt : a.salt.now ≡ b.salt.now
   pub stored : a.stored.now ≡ b.stored.now
 
--- the plan `b` of a LUKS2 keyslot says what the plan `a` of a LUKS1 keyslot says, but for its area
+-- the plan `b` of a LUKS2 keyslot says what the plan `a` of a LUKS1 keyslot says, except for its area
 pub record IsCopiedPlan (a b : SlotPlan) : Type 0 where
   pub derivation : IsSameDerivation a.derivation b.derivation
   pub cipher : IsJoinedCipher a.cipher b.cipher

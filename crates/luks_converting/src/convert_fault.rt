@@ -8,7 +8,7 @@ use luks_reading::{CheckFault, ReadFault};
 use std::error::Error;
 use std::fmt;
 
-/// Why a volume isn't converted: the first in this order, but for want of memory and a device's
+/// Why a volume isn't converted: the first in this order, except for a failed allocation and a device's
 /// failure.
 ///
 /// All but a device's failure leave every byte of the target as it was. None changes the source.

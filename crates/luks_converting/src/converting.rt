@@ -61,7 +61,7 @@ pub fn convert<S: Device, T: Device>(
     ensures size { T.size target.new ≡ T.size target.old }
     ensures settled { T.tells → OnOk result (IsSettled T.unsettled target.new) }
 
-    // The first fault that stands, or want of memory, and then nothing of the target changed.
+    // The first fault that stands, or a failed allocation, and then nothing of the target changed.
     ensures fault { S.tells → IfErr result
         (IsAnsweredFault (S.bytes source.old) payload (T.size target.old) random.now) }
     ensures faultless { S.tells → OnOk result

@@ -11,10 +11,10 @@ use luks2_header::Bin2;
 /// The length of a copy of the header in bytes, which is also the second copy's place.
 pub(crate) const COPY_SIZE: u64 = 16384;
 
-/// Where the salt of the first copy stands among the random bytes.
+/// The place of the salt of the first copy among the random bytes.
 pub(crate) const FIRST_SALT: usize = 0;
 
-/// Where the salt of the second copy stands.
+/// The place of the salt of the second copy.
 pub(crate) const SECOND_SALT: usize = 64;
 
 /// The salt at this place of the random bytes.
@@ -27,7 +27,7 @@ pub(crate) fn taken_salt(random: &[u8], at: usize) -> [u8; 64]
     salt
 }
 
-/// Writes the copy of the header that stands at the place `at`, with this uuid of 36 bytes and this
+/// Writes the copy of the header that is at the place `at`, with this uuid of 36 bytes and this
 /// salt, and flushes. Also where the device fails no byte outside the copy changes.
 pub(crate) fn write_converted_copy<D: Device>(
     device: &mut D,

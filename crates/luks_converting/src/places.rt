@@ -24,7 +24,7 @@ pub(crate) fn new_area(header: &Luks1, n: usize) -> Area
     }
 }
 
-/// Where the last of the new areas ends.
+/// The end of the last of the new areas.
 pub(crate) fn areas_end(header: &Luks1) -> u64
     requires { header.now.common.key_bytes ≤ 128 }
     ensures { (h : List ℕ) → IsLuks1 h header.now → result ≡ new_start h 8 }

@@ -57,7 +57,7 @@ not_opening allowed v n secret f not bad = no_lock secret.kind bad.gives.plan.ke
 
 -- ---- one fault
 
--- a fault doesn't stand behind itself
+-- a fault doesn't follow itself
 same_row : (f : EditFault) → is_lock f ≡ true → NotAfter (edit_key f) (edit_key f)
 same_row fault.Locked is = (omega arith, λ _. tt)
 same_row fault.KeyLength is = (omega arith, λ _. tt)
@@ -67,7 +67,7 @@ same_row f is = absurd (false≢true is)
 pub lock_first : (f g : EditFault) → is_lock f ≡ true → g ≡ f → NotAfter (edit_key f) (edit_key g)
 lock_first f g is same = subst (λ k. NotAfter (edit_key f) (edit_key k)) (sym same) (same_row f is)
 
--- that of a plan stands before that of a plan whose row it doesn't come behind
+-- that of a plan comes before that of a plan whose row it doesn't come behind
 pub plan_first : (s t : SlotFault) → slot_row s ≤ slot_row t → NotAfter (edit_key (fault.Slot s)) (edit_key (fault.Slot t))
 plan_first s t le = (omega arith, λ _. (le, λ _. tt))
 

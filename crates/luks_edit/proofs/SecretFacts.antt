@@ -84,7 +84,7 @@ pub same_given : (kind : SecretKind) (a b : SlotPlan) (v p : List ℕ) → SameF
 same_given Passphrase a b v p s = same_answer a b v p s
 same_given Key a b v p s = same_own a b p s
 
--- a keyslot has one plan, but for what decides nothing
+-- a keyslot has one plan, except for what decides nothing
 pub one_plan : (allowed : Allowed) (v : List ℕ) (n : ℕ) (c : Choice) (a b : SlotPlan) → HasPlanAs v n c a → HasPlanAs v n c b
     → ((f : OpenFault) → IsRefusalAsWithin allowed v n c f → ⊥) → SameFields a b
 one_plan allowed v n luks1 a b x y clear = one_luks1_plan (part v 0 592) n a b x y

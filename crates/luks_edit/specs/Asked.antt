@@ -162,7 +162,7 @@ abbrev pub AmendsSlot : Option Change → ℕ → Type 0
 AmendsSlot None n = ⊥
 AmendsSlot (Some c) n = MatchChange c (λ slot priority. n ≡ slot) (λ to token. ⊥) (λ number. ⊥)
 
--- the header says all that it said but for the uuid, if one is given
+-- the header says all that it said except for the uuid, if one is given
 abbrev pub sets_uuid_at_most : Rewritten → Bool
 sets_uuid_at_most r = is_none r.label && is_none r.subsystem && is_none r.change
 

@@ -5,7 +5,7 @@ use Rattle.luks_edit.specs.declared.edit_fault.EditFault.{EditFault}
 use Rattle.luks_edit.specs.declared.edit_fault.EditFault.TheVariants as fault
 use Rattle.luks_edit.specs.EditFaults.{is_edit_failure}
 
--- the fault tells a refusal: neither want of memory nor the device's failure
+-- the fault tells a refusal: neither a failed allocation nor the device's failure
 abbrev pub is_refusal : EditFault → Bool
 is_refusal fault.Memory = false
 is_refusal fault.Device = false

@@ -70,7 +70,7 @@ pub enum Place<'a> {
 pub struct Removed<'a> {
     /// The keyslot.
     pub slot: u8,
-    /// The keyslot that the secret opens, another one than `slot`. Where it isn't given, a passphrase
+    /// The keyslot that the secret opens, another one than `slot`. If it isn't given, a passphrase
     /// opens `slot`, and a key is the volume's, by no keyslot.
     pub by_: Option<u8>,
     /// The passphrase, or the key.
@@ -113,7 +113,7 @@ pub struct Rewritten<'a> {
 }
 
 impl Rewritten<'_> {
-    /// Whether the header says all that it said but for a uuid that is given, as a header of LUKS1 may.
+    /// Whether the header says all that it said except for a uuid that is given, as a header of LUKS1 may.
     pub fn sets_uuid_at_most(&self) -> bool
         ensures { result ≡ sets_uuid_at_most self.now }
     {

@@ -61,7 +61,7 @@ pub struct VolumeKey<'a> {
 pub enum Edit<'a> {
     /// Adds a keyslot in which a new passphrase opens the key that the secret opens or is.
     ///
-    /// Where no derivation is chosen, LUKS2 derives its key as that of the keyslot that the secret
+    /// If no derivation is chosen, LUKS2 derives its key as that of the keyslot that the secret
     /// opens: by Argon2 of the same kind and costs, or by PBKDF2 with the same hash.
     Add {
         /// The keyslot that the secret opens.
@@ -119,7 +119,7 @@ pub enum Edit<'a> {
     Remove {
         /// The keyslot.
         slot: u8,
-        /// The keyslot that the secret opens, another one than `slot`. Where it isn't given, a passphrase
+        /// The keyslot that the secret opens, another one than `slot`. If it isn't given, a passphrase
         /// opens `slot`, and a key is the volume's, by no keyslot, as of `AddByKey`.
         by_: Option<u8>,
         /// The passphrase, or the key.

@@ -8,7 +8,7 @@ use luks_slot::SlotFault;
 use std::error::Error;
 use std::fmt;
 
-/// Why an edit isn't completed: the first in this order, but for want of memory and the device's
+/// Why an edit isn't completed: the first in this order, except for a failed allocation and the device's
 /// failure.
 ///
 /// All but the device's failure leave every byte as it was.

@@ -72,7 +72,7 @@ pub fn own_key(plan: &SlotPlan<'_>, key: &[u8], allowed: Allowed) -> Result<Opti
     }
 }
 
-/// The same of a plan whose hash is known.
+/// The key of a plan whose hash is known.
 fn own_key_of(plan: &SlotPlan<'_>, key: &[u8], older: bool) -> Option<Key>
     requires known { is_known_hash older plan.now.digest.hash.now ≡ true }
     requires digest_iterations { 1 ≤ plan.now.digest.iterations }

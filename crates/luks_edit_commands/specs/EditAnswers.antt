@@ -25,7 +25,7 @@ pub record LacksRandom (payload : Data) (given : Given) (lacks : Lacking) (v : L
   pub unread : lacks.random count fault
   pub answered : unread_answer fault ≡ a
 
--- a file that the edit needs can't be read, and this is answered: `no memory` for want of memory, else
+-- a file that the edit needs can't be read, and this is answered: `no memory` for a failed allocation, else
 -- `device fault`
 abbrev pub LacksFile : Type 0 → Data → Given → Lacking → List ℕ → Answer → Type 0
 LacksFile tells payload given lacks v a = ((f : InputFault) × lacks.words f × (unread_answer f ≡ a)) ⊎ (tells → LacksRandom payload given lacks v a)

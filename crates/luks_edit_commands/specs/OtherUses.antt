@@ -1,4 +1,4 @@
--- Another use of the disk by now: where only one copy of a LUKS2 header is sound, what stands in the place of the other,
+-- Another use of the disk by now: where only one copy of a LUKS2 header is sound, what is in the place of the other,
 -- and how an edit ends that it bars.
 use Rattle.std.specs.Prelude.{◌≡◌, ℕ, ◌*◌, List, [], ◌∷◌, ◌++◌, codes, Option, Some, None, Bool, false, Result, Ok, Err, ⊤, take}
 use Rattle.luks2_header.specs.Header2.{header_at, HoldsBin2}
@@ -24,10 +24,10 @@ use Rattle.luks_edit_commands.specs.declared.edit.seen.Unseen.TheVariants.{Untol
 abbrev pub IsCounting : List ℕ → Bin2 → Copies → Type 0
 IsCounting v h copies = Chosen v (luks2 h.hdr_offset copies) × HoldsBin2 (header_at v h.hdr_offset) h
 
--- Before which byte the volume `v` is asked, whose copies stand so and of which the one at `place` counts. Where only
--- the second copy is sound, the first one's place ends where it begins. Where only the first one is, the second one's place
--- ends at twice its size: none of its own bytes are those of another use, since they are summed. Where both are sound, no
--- other use has been made in their places; of what stands behind them it can't be told whether it is older.
+-- Before which byte the volume `v` is asked, whose copies stand so and of which the one at `place` counts. If only
+-- the second copy is sound, the first one's place ends where it begins. If only the first one is, the second one's place
+-- ends at twice its size: none of its own bytes are those of another use, since they are summed. If both are sound, no
+-- other use has been made in their places; of what follows them it can't be told whether it is older.
 abbrev pub AsksBefore : List ℕ → ℕ → Copies → ℕ → Type 0
 AsksBefore v place SecondOnly end = end ≡ place
 AsksBefore v place FirstOnly end = end ≡ 2 * second_place v
@@ -36,7 +36,7 @@ AsksBefore v place FirstNewer end = ⊥
 AsksBefore v place SecondNewer end = ⊥
 
 -- One copy alone of a LUKS2 header is sound in the volume `v`, and the table of signatures finds this use before the end of
--- the other one's place, whatever magic stands there. (A LUKS1 header has no copy: where a partition table was made, the
+-- the other one's place, whatever magic is there. (A LUKS1 header has no copy: where a partition table was made, the
 -- words of keyslots 5 and 6 are those of no state, and `check` refuses it.)
 pub record HasOtherUse (v : List ℕ) (found : OtherUse) : Type 0 where
   pub place : ℕ

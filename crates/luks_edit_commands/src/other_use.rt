@@ -63,7 +63,7 @@ fn use_beside<D: Device>(
     }
 }
 
-/// Where the place of the second copy ends.
+/// The end of the place of the second copy.
 fn both_places(size: u64) -> u64
     ensures { size ≤ 4194304 → result ≡ 2 * size }
 {

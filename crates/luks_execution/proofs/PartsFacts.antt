@@ -52,7 +52,7 @@ bare_absurd text name rest plain is =
     let long : length text ≡ length name + length (40 ∷ rest) = ap length is ∙ length-append name (40 ∷ rest) in
     plain (length name) 0 (omega (arith, long)) (ap (λ t. get_or t (length name) 0) is ∙ get_or-append_seam name 40 rest 0)
 
--- what stands behind the first bracket of a text that has parts ends with one
+-- what follows the first bracket of a text that has parts ends with one
 pub closed_rest : (text : List ℕ) (found : Bor (List ℕ) × Bor (List ℕ)) → HasParts text → IsSplitOnceResult 40 text (Some found) → IsClosed found.1.now
 closed_rest text found has cases = elim has.is [
   | inl bare ↦ absurd (bare_absurd text found.0.now found.1.now (subst LacksBracket (sym bare) has.plain) (split_parts 40 text (Some found) cases (lit< tt)).0)

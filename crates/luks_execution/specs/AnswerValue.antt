@@ -102,7 +102,7 @@ IsAnswerWith NoMemory hints status d = d ≡ bare_value (codes "no memory") hint
 abbrev pub IsAnswerValue : Answer → List (List ℕ) → Data → Type 0
 IsAnswerValue answer hints d = IsAnswerWith answer (texts_value hints) (exit_status (answer_status answer)) d
 
--- the compact text of the object, in which each character that steers a terminal is escaped, so that none stands in it
+-- the compact text of the object, in which each character that steers a terminal is escaped, so that none is in it
 pub record IsAnswerText (answer : Answer) (hints : List (List ℕ)) (text : List ℕ) : Type 0 where
   pub value : Data
   pub is : IsAnswerValue answer hints value

@@ -6,7 +6,7 @@ use Rattle.std.specs.List.{All, join_with_byte}
 abbrev pub LacksBracket : List ℕ → Type 0
 LacksBracket text = All (λ c. c ≢ 40) text
 
--- no comma stands in the text
+-- no comma is in the text
 abbrev pub LacksComma : List ℕ → Type 0
 LacksComma text = All (λ c. c ≢ 44) text
 

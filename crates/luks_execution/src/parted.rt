@@ -8,7 +8,7 @@ use std::alloc::{AllocError, Global};
 /// The parts of a fault as it is printed.
 #[derive(Drop)]
 pub(crate) struct Parts<'a> {
-    /// What stands before its brackets.
+    /// What precedes its brackets.
     pub(crate) name: &'a str,
     /// What they hold, by commas; nothing where it has none.
     pub(crate) places: Vec<&'a str>,
@@ -32,7 +32,7 @@ pub(crate) fn parts_of(alloc: Global, text: &str) -> Result<Parts<'_>, AllocErro
     }
 }
 
-/// What stands before the bracket that the text ends with.
+/// What precedes the bracket that the text ends with.
 fn inside(text: &str) -> &str
     requires { IsClosed text.now }
     ensures { text.now ≡ result.now ++ codes ")" }

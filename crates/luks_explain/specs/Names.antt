@@ -1,11 +1,11 @@
--- The faults that the program prints, by their names: what stands before a bracket.
+-- The faults that the program prints, by their names: what precedes a bracket.
 use Rattle.std.specs.Prelude.{◌≡◌, ◌==◌, ℕ, List, [], ◌∷◌, Option, Some, codes, find, refl}
 use Rattle.std.specs.List.{before_first}
 use Rattle.std.specs.Str.{bytes_eq, str_eq_ignore_ascii_case}
 use Rattle.luks_explain.specs.declared.fault.Fault.{Fault}
 use Rattle.luks_explain.specs.declared.fault.Fault.TheVariants as fault
 
--- the name in a fault as it is printed: what stands before its first bracket, or all of it
+-- the name in a fault as it is printed: what precedes its first bracket, or all of it
 abbrev pub name_in : List ℕ → List ℕ
 name_in printed = before_first (λ c. c == 40) printed
 

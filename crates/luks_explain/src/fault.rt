@@ -5,7 +5,7 @@ ghost use Rattle.luks_explain.specs.Names.{fault_called, fault_named, name_in, n
 use crate::explanation::Explanation;
 use crate::texts::{means, next, place, safe};
 
-/// A fault by its name alone, without what it prints in brackets. Where several faults have one name,
+/// A fault by its name alone, without what it prints in brackets. If several faults have one name,
 /// as `Outside` of an area and of the keyslot to open, it stands for all of them.
 #[derive(Clone, Copy, PartialEq)]
 pub enum Fault {
@@ -135,7 +135,7 @@ pub enum Fault {
     NotAccepted,
     /// Of restore: check would refuse VOLUME with this header.
     DoesNotFit,
-    /// Another volume's header stands on what would be written over.
+    /// Another volume's header is on what would be written over.
     OtherVolume,
     /// The disk has another use, which would be written over.
     OtherUse,
@@ -270,7 +270,7 @@ impl Fault {
     }
 }
 
-// What stands before the first bracket.
+// What precedes the first bracket.
 fn front(printed: &str) -> &str
     ensures { result.now ≡ name_in printed.now }
 {

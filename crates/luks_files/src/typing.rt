@@ -26,7 +26,7 @@ const INPUT: &str = "/proc/self/fd/0";
 pub const ERROR: &str = "/proc/self/fd/2";
 
 /// Whether the stream of this name is a terminal, by the number of its device (Linux, "Linux allocated devices"):
-/// consoles and serial lines, the terminal of a process, pseudoterminals. Where /proc isn't mounted it
+/// consoles and serial lines, the terminal of a process, pseudoterminals. If /proc isn't mounted it
 /// isn't known to be one.
 pub fn is_terminal<R: Files<File = File>>(rt: &R, name: &str) -> bool {
     match fs::metadata(rt, name) {

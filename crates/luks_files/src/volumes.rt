@@ -69,7 +69,7 @@ impl Volumes {
 }
 
 /// Opens the volume, and then what the command writes or reads beside it; neither where a passphrase has
-/// ended the command, and nothing beside a volume that can't be opened. Where both are one file, by
+/// ended the command, and nothing beside a volume that can't be opened. If both are one file, by
 /// whichever names, or the system tells that they have bytes in common, nothing is opened; nor where the file
 /// of a key is that of its passphrase. Each is locked as what it is opened for. The file of a key or a token
 /// isn't opened yet: `KeptFile` makes it.

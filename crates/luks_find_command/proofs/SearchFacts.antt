@@ -28,7 +28,7 @@ use Rattle.luks_find_command.proofs.TellingFacts.{lines-weaker, paired-weaker, t
 
 -- ---- as long as no read fails
 
--- all volumes of which the first sign stands before the sector `sectors` are the list, and were told
+-- all volumes of which the first sign comes before the sector `sectors` are the list, and were told
 pub record IsCalm (offset : ℕ) (v : List ℕ) (sectors : ℕ) (list : List ℕ) (held holds : Told) : Type 0 where
   pub so_far : AreStartsBetween v 0 sectors list
   pub has : HasTold offset v list held holds

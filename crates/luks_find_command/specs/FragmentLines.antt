@@ -16,7 +16,7 @@ kind_text kind.Keyslot = codes "keyslot"
 kind_text kind.Digest = codes "digest"
 kind_text kind.Segment = codes "segment"
 
--- the number that stands before it, if one does
+-- the number that comes before it, if one does
 abbrev pub number_json : Option ℕ → List ℕ
 number_json (Some n) = decimal n
 number_json None = codes "null"

@@ -21,7 +21,7 @@ pub(crate) struct Checked {
     pub(crate) uuid: Option<[u8; 40]>,
 }
 
-/// What `check` answers of the volume that begins at `start`, and the device, which is as it was. Where the
+/// What `check` answers of the volume that begins at `start`, and the device, which is as it was. If the
 /// header of an accepted volume can't be read once more for its uuid, the verdict is `device fault`.
 pub(crate) fn check_at<D: Device, E: Write>(
     alloc: Global,

@@ -61,7 +61,7 @@ pub fn run<D: Device, P: Printer, E: Write, G: Progress>(
     }
 }
 
-/// The same of a device that is there, which is handed back.
+/// Searches a device that is there, which is handed back.
 fn find_on<D: Device, P: Printer, E: Write, G: Progress>(
     alloc: Global,
     device: D,

@@ -33,7 +33,7 @@ struct Telling {
     as_json: bool,
 }
 
-/// Prints a line for each keyslot, digest and segment that stands whole on the file of this name, as soon as it
+/// Prints a line for each keyslot, digest and segment that is whole on the file of this name, as soon as it
 /// is found, or an object of JSON on a line; answers the exit status. `volume` is the bytes of the file at this
 /// place. `progress` is told after each step how far the search is. The first read that fails ends it.
 pub fn run<D: Device, P: Printer, E: Write, G: Progress>(
@@ -80,7 +80,7 @@ fn last_of(fault: InputFault) -> Last
     }
 }
 
-/// The same of a device that is there.
+/// Lists the fragments of a device that is there.
 fn list_on<D: Device, P: Printer, E: Write, G: Progress>(
     alloc: Global,
     device: &mut D,
@@ -187,7 +187,7 @@ fn list<D: Device, P: Printer, G: Progress>(
     list_by(alloc, device, &mut block, telling, out, progress)
 }
 
-/// The same, by readings of as many bytes as `block` has.
+/// Lists them by readings of as many bytes as `block` has.
 fn list_by<D: Device, P: Printer, G: Progress>(
     alloc: Global,
     device: &mut D,

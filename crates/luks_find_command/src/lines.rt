@@ -37,7 +37,7 @@ impl fmt::Display for NoneFound {
     }
 }
 
-/// A fragment that was found: where it begins in its file, in bytes, what it is, and the number that stands before it;
+/// A fragment that was found: where it begins in its file, in bytes, what it is, and the number that comes before it;
 /// as an object of JSON or as a line.
 #[derive(Clone, Copy)]
 pub(crate) struct FragmentLine {

@@ -19,7 +19,7 @@ pub(crate) struct Met {
 }
 
 impl Default for Met {
-    /// None: what stands in the places where none is remembered yet.
+    /// None: what is in the places where none is remembered yet.
     fn default() -> Met {
         Met {
             uuid: [0; 40],
@@ -75,7 +75,7 @@ fn remember(volume: Met, met: &mut ArrayVec<Met, MOST_MET>)
     met.push(volume);
 }
 
-/// Where the volume with this uuid begins, if one of these has it.
+/// The start of the volume with this uuid, if one of these has it.
 fn first_with(uuid: &[u8; 40], met: &[Met]) -> Option<u128>
     ensures some { IfSome result (IsAmong met.now uuid.now) }
     ensures none { IsNone result → (first : ℕ) → IsAmong met.now uuid.now first → ⊥ }

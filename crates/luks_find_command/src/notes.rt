@@ -5,7 +5,7 @@ use luks_reading::{CheckFault, MetaFault};
 use std::io::Write;
 
 /// Says what to do next with the volume that begins at this byte of the file, of which `check` answers
-/// so; `luks1` says whether what stands there is a LUKS1 header, whatever its magic.
+/// so; `luks1` says whether what is there is a LUKS1 header, whatever its magic.
 pub(crate) fn note_next<E: Write>(
     verdict: &Answer,
     luks1: bool,

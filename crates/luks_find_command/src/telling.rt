@@ -23,7 +23,7 @@ use luks_reading::Device;
 use std::alloc::Global;
 use std::io::Write;
 
-/// Prints the line of the volume that begins at `start`, and says what to do next with it. Where not all
+/// Prints the line of the volume that begins at `start`, and says what to do next with it. If not all
 /// can be read that `check` needs, the line ends with `device fault`. Where a volume with its uuid was met
 /// before, `progress` is told so.
 pub(crate) fn tell<D: Device, P: Printer, E: Write, G: Progress>(
@@ -68,7 +68,7 @@ pub(crate) fn tell<D: Device, P: Printer, E: Write, G: Progress>(
     }
 }
 
-/// The same of a volume of which not all can be read that `check` needs, whoever found that.
+/// Tells a volume of which `check` needs bytes that can't be read, whoever found that.
 pub(crate) fn tell_unread<P: Printer, E: Write>(
     start: u64,
     file: &Searched<'_>,
@@ -95,7 +95,7 @@ pub(crate) fn tell_unread<P: Printer, E: Write>(
     }
 }
 
-/// The same of a volume of which `check` answers so.
+/// Tells a volume for which `check` gives this answer.
 fn tell_verdict<D: Device, P: Printer, E: Write, G: Progress>(
     device: D,
     start: u64,

@@ -14,7 +14,7 @@ use Rattle.luks_finding.proofs.BlockFacts.{before-first, begins-inside, block-ro
 use Rattle.luks_finding.proofs.ReadFacts.{before-both, before-further, passed-below, passed-either, passed-left, passed-right, read-further, AreSameBefore}
 use Rattle.luks_finding.proofs.SignFacts.{sign-begins, sign-sector}
 
--- no sign stands at the sectors from `from` on and before `next`
+-- no sign is at the sectors from `from` on and before `next`
 abbrev pub HasNone : List ℕ → ℕ → ℕ → Type 0
 HasNone v from next = (n s : ℕ) → from ≤ n → n < next → IsSign v s (512 * n) → ⊥
 

@@ -20,7 +20,7 @@ none-between v from end none = record {
 pub none-yet : (v : List ℕ) → AreStartsBetween v 0 0 []
 none-yet v = none-between v 0 0 (λ k s low high sign. omega (arith, high))
 
--- a volume's first sign stands at one place
+-- a volume's first sign is at one place
 pub first-behind : (v : List ℕ) (s p q : ℕ) → IsFirstSign v s p → IsSign v s q → p ≤ q
 first-behind v s p q first sign = elim (cases_lt q p) [
   | inl before ↦ absurd (first.first (record { place = q; before = before; sign = sign }))

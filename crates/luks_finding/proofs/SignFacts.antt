@@ -27,7 +27,7 @@ place-large place is = elim is.first_or_second [
   | inr second ↦ ap (λ n. 16384 * (n / 16384)) second ∙ listed-large place.size is.listed ∙ sym second
 ]
 
--- and so a sign stands at a sector
+-- and so a sign is at a sector
 pub sign-sector : (v : List ℕ) (s p : ℕ) → IsSign v s p → (k : ℕ) × (p ≡ 512 * k)
 sign-sector v s p sign =
     let start : s ≡ 512 * sign.sector = sign.there in
@@ -156,13 +156,13 @@ copy-named v s p sign =
       is = ap hdr_size (sym (copy-header v s p sign)) ∙ sign.sound.form.second (listed-some size sign.listed);
     }
 
--- so all that stand at one place have one size
+-- so all that are at one place have one size
 pub copy-sound : (v : List ℕ) (s p size : ℕ) → NamesSize v p size → IsCopySign v s p → (p ≡ s + size) × IsSound (volume_at v s) size
 copy-sound v s p size named sign =
     let same : sign.size ≡ size = sym (copy-named v s p sign).is ∙ named.is in
     (sign.there ∙ ap (λ n. s + n) same, subst (λ (n : ℕ). IsSound (volume_at v s) n) same sign.sound)
 
--- ---- which sign stands at a place
+-- ---- which sign is at a place
 
 -- a sign where a header begins is that header
 pub sign-header : (v : List ℕ) (s p : ℕ) → BeginsVolume v p → IsSign v s p → p ≡ s
@@ -222,7 +222,7 @@ nearer-before v s p k size start listed high has =
       ]
     ]
 
--- one that stands before it, or before the JSON area behind its binary header, is such a sign, or the copy itself
+-- one that comes before it, or before the JSON area behind its binary header, is such a sign, or the copy itself
 pub before-nearer : (v : List ℕ) (s q size : ℕ) → IsListed size → IsSign v s q → q < s + size + 4096 → HasNearer v s size ⊎ ((q ≡ s + size) × IsSound (volume_at v s) size)
 before-nearer v s q size listed sign low = elim sign.is [
   | inl header ↦ inl (inl header.begins)

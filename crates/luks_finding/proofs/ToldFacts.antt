@@ -151,7 +151,7 @@ sign-kind v s p h behind sign =
           inr (omega (arith, there, second, least))
     ]
 
--- the magic of the other copy doesn't stand there
+-- the magic of the other copy doesn't are there
 kind-first : (v : List ℕ) (p h : ℕ) → p ≡ h + 4096 → IsMetadataSign v h p → part v h 6 ≡ second_magic → ⊥
 kind-first v p h behind sign magic =
     let there : h + sign.copy.at ≡ h = header-there v h p h behind sign in
@@ -202,7 +202,7 @@ whole-text v h size is =
 pub front-of : (v beginning : List ℕ) (h : ℕ) → beginning ≡ part v h 8 → part beginning 0 6 ≡ part v h 6
 front-of v beginning h read = ap (λ b. part b 0 6) read ∙ part-part v h 8 0 6 (omega arith) ∙ ap (λ k. part v k 6) (omega arith)
 
--- the first copy's volume, where the magic of a second copy stands there
+-- the first copy's volume, where the magic of a second copy is there
 pub first-other : (v beginning : List ℕ) (h size : ℕ) → IsWholeAt v h size → beginning ≡ part v h 8 → part beginning 0 6 ≡ second_magic
     → TellsKind (IsFirstAt h) v (h + 4096) None
 first-other v beginning h size whole read is = λ s kind sign.
@@ -267,7 +267,7 @@ first-told v beginning k size whole read other none alone =
           ]
         ]
 
--- what stands there of a volume before is its second copy of this size
+-- what is there of a volume before is its second copy of this size
 pub second-there : (v : List ℕ) (s h size : ℕ) → IsWholeAt v h size → s < h → IsSign v s (h + 4096) → s + size ≡ h
 second-there v s h size whole below sign =
     let p : ℕ = h + 4096 in
@@ -285,14 +285,14 @@ second-outside v h size whole large = λ s below sign.
     let there : s + size ≡ h = second-there v s h size whole below sign in
     absurd (omega (arith, there, large))
 
--- the magic of a first copy stands there
+-- the magic of a first copy is there
 pub second-first : (v beginning : List ℕ) (h size : ℕ) → IsWholeAt v h size → beginning ≡ part v h 8 → part beginning 0 6 ≡ luks_magic
     → TellsKind (IsSecondAt h) v (h + 4096) None
 second-first v beginning h size whole read magic = λ s below sign.
     let metadata : IsMetadataSign v s (h + 4096) = sign-metadata v s (h + 4096) (whole-text v h size whole) sign in
     absurd (kind-second v s (h + 4096) h refl below metadata (sym (front-of v beginning h read) ∙ magic))
 
--- a sign of its volume stands before
+-- a sign of its volume comes before
 pub second-before : (v : List ℕ) (h k size : ℕ) → IsWholeAt v h size → 512 * k + size ≡ h → HasSignBefore v (512 * k) (h + 4096)
     → TellsKind (IsSecondAt h) v (h + 4096) None
 second-before v h k size whole back before = λ s below sign.

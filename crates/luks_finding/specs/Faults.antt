@@ -15,7 +15,7 @@ abbrev pub find_fault_text : FindFault → List ℕ
 find_fault_text fault.Memory = codes "Memory"
 find_fault_text fault.Device = codes "Device"
 
--- whether metadata that is refused by the fault has none: want of memory leaves it open
+-- whether metadata that is refused by the fault has none: a failed allocation leaves it open
 abbrev pub faulty : WideFault → Result Bool FindFault
 faulty (wide.Meta meta.Memory) = Err fault.Memory
 faulty f = Ok false

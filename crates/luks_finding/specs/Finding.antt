@@ -11,26 +11,26 @@ use Rattle.luks_finding.specs.declared.told.Told.TheVariants as told
 abbrev pub looks_from : Finding → ℕ
 looks_from finding = finding.sector
 
--- the volume's first sign stands at one of the sectors from `from` on and before `end`
+-- the volume's first sign is at one of the sectors from `from` on and before `end`
 pub record IsToldBetween (v : List ℕ) (from end s : ℕ) : Type 0 where
   pub place : ℕ
   pub from_on : sector_size * from ≤ place
   pub below : place < sector_size * end
   pub first : IsFirstSign v s place
 
--- the list has the volumes whose first signs stand at the sectors from `from` on and before `end`, in the order of these
+-- the list has the volumes whose first signs are at the sectors from `from` on and before `end`, in the order of these
 -- signs; each other one with a sign there has one before
 pub record AreStartsBetween (v : List ℕ) (from end : ℕ) (list : List ℕ) : Type 0 where
   pub sound : (i : ℕ) → i < length list → IsToldBetween v from end (slice_index list i)
   pub complete : (k s : ℕ) → from ≤ k → k < end → IsSign v s (sector_size * k) → HasSignBefore v s (sector_size * k) ⊎ IsAmong list s
   pub in_order : AreInOrder v list
 
--- no sign stands at the sectors from `from` on
+-- no sign is at the sectors from `from` on
 abbrev pub HasNoSignFrom : List ℕ → ℕ → Type 0
 HasNoSignFrom v from = (k s : ℕ) → from ≤ k → IsSign v s (sector_size * k) → ⊥
 
 -- what a step tells that looked from the sector `from` on and goes on at `next`: the volumes whose first signs stand
--- between; or at the end that no sign stands there any more
+-- between; or at the end that no sign is there any more
 abbrev pub TellsNext : List ℕ → ℕ → ℕ → Step → Type 0
 TellsNext v from next (Start s) = AreStartsBetween v from next (s ∷ [])
 TellsNext v from next (Two s t) = AreStartsBetween v from next (s ∷ t ∷ [])

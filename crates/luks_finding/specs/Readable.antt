@@ -34,28 +34,28 @@ sectors_of (x ∷ xs) = (x.to - x.from) + sectors_of xs
 
 -- ---- signs that can be read
 
--- a sign of the volume at `s` stands at the place `p`, which wasn't passed over
+-- a sign of the volume at `s` is at the place `p`, which wasn't passed over
 pub record IsReadSign (v : List ℕ) (passed : List Passed) (s p : ℕ) : Type 0 where
   pub sign : IsSign v s p
   pub read : IsPassed passed p → ⊥
 
--- one stands before the place `p`
+-- one comes before the place `p`
 pub record HasReadBefore (v : List ℕ) (passed : List Passed) (s p : ℕ) : Type 0 where
   pub place : ℕ
   pub before : place < p
   pub sign : IsReadSign v passed s place
 
--- the first one stands there
+-- the first one is there
 pub record IsFirstRead (v : List ℕ) (passed : List Passed) (s p : ℕ) : Type 0 where
   pub sign : IsReadSign v passed s p
   pub first : HasReadBefore v passed s p → ⊥
 
--- the volumes stand in the list in the order of their first signs that can be read
+-- the volumes are in the list in the order of their first signs that can be read
 abbrev pub AreInReadOrder : List ℕ → List Passed → List ℕ → Type 0
 AreInReadOrder v passed list = (i j p q : ℕ) → i < j → j < length list → IsFirstRead v passed (slice_index list i) p → IsFirstRead v passed (slice_index list j) q
     → ComesBefore p (slice_index list i) q (slice_index list j)
 
--- The list has each volume of the disk `v` of which a sign stands at a place that wasn't passed over, and no other one, each
+-- The list has each volume of the disk `v` of which a sign is at a place that wasn't passed over, and no other one, each
 -- once and in the order of these signs. A sign counts as ever: where nothing was passed over these are all starts.
 pub record AreReadStarts (v : List ℕ) (passed : List Passed) (list : List ℕ) : Type 0 where
   pub sound : (i : ℕ) → i < length list → (p : ℕ) × IsReadSign v passed (slice_index list i) p
@@ -65,7 +65,7 @@ pub record AreReadStarts (v : List ℕ) (passed : List Passed) (list : List ℕ)
 
 -- ---- a part of the search
 
--- the first sign that can be read stands before the sector `end`
+-- the first sign that can be read comes before the sector `end`
 pub record IsReadTo (v : List ℕ) (passed : List Passed) (end s : ℕ) : Type 0 where
   pub place : ℕ
   pub below : place < sector_size * end
@@ -94,7 +94,7 @@ abbrev pub passed_by : Further → List Passed
 passed_by (further.Step step) = []
 passed_by (further.Passed x) = x ∷ []
 
--- Where all starts with a sign that can be read before the sector `from` were told, all such starts before the sector `next`
+-- If all starts with a sign that can be read before the sector `from` were told, all such starts before the sector `next`
 -- are told with what the step tells, where what it passes over counts as passed over.
 abbrev pub TellsFurther : List ℕ → List ℕ → ℕ → ℕ → Further → Type 0
 TellsFurther v told from next f = (passed : List Passed) → AreReadTo v passed from told → AreReadTo v (passed ++ passed_by f) next (told ++ told_by f)
@@ -107,7 +107,7 @@ GoesFurther total from next (further.Passed x) = (from < next) × (sector_size *
 
 -- ---- a place
 
--- the list has the volumes of which a sign stands at the place `p`, in ascending order
+-- the list has the volumes of which a sign is at the place `p`, in ascending order
 pub record AreSignsAt (v : List ℕ) (p : ℕ) (list : List ℕ) : Type 0 where
   pub signs : (i : ℕ) → i < length list → IsSign v (slice_index list i) p
   pub rising : (i j : ℕ) → i < j → j < length list → slice_index list i < slice_index list j

@@ -1,4 +1,4 @@
--- Where LUKS volumes begin on a disk, by what is left of them.
+-- The places where LUKS volumes begin on a disk, by what is left of them.
 use Rattle.std.specs.Prelude.{◌≡◌, ◌≢◌, ℕ, ◌+◌, ◌*◌, ◌<◌, ◌≤◌, ◌⊎◌, ◌==◌, List, codes, drop, length, slice_index, if◌then◌else◌}
 use Rattle.luks_area.specs.Ranges.{part}
 use Rattle.luks1_header.specs.Header1.{header_text, key_bytes_of, luks_magic, luks1_size, mk_digest_iterations_of, version_of, HasMagic}
@@ -54,7 +54,7 @@ pub record IsLuks1Header (h : List ℕ) (total : ℕ) : Type 0 where
 abbrev pub volume_at : List ℕ → ℕ → List ℕ
 volume_at v s = drop s v
 
--- one begins at the place `s` of the disk, whatever stands in the place of its magic and its version
+-- one begins at the place `s` of the disk, whatever is in the place of its magic and its version
 pub record BeginsLuks1 (v : List ℕ) (s : ℕ) : Type 0 where
   pub whole : s + luks1_size ≤ length v
   pub header : IsLuks1Header (part v s luks1_size) (length (volume_at v s))
@@ -102,7 +102,7 @@ pub record IsWholeCopy (w : List ℕ) (copy : Place) : Type 0 where
   pub faultless : (f : WideFault) → IsWiderFault (json_of w copy) f → ⊥
 
 -- the copy of the volume that begins at `s` has metadata that is whole. A JSON area doesn't say of which copy it is: it
--- counts for none of one where the magic of the other stands before it, or where a sound copy says that it is the other
+-- counts for none of one where the magic of the other comes before it, or where a sound copy says that it is the other
 -- copy of another volume.
 pub record HasMetadata (v : List ℕ) (s : ℕ) (copy : Place) : Type 0 where
   pub whole : IsWholeCopy (volume_at v s) copy
@@ -115,7 +115,7 @@ pub record IsMetadataSign (v : List ℕ) (s p : ℕ) : Type 0 where
   pub there : p ≡ s + copy.at + binary_header_size
   pub has : HasMetadata v s copy
 
--- a sign of a volume that begins at `s`, which is a sector's place, stands at the place `p` of the disk `v`
+-- a sign of a volume that begins at `s`, which is a sector's place, is at the place `p` of the disk `v`
 pub record IsSign (v : List ℕ) (s p : ℕ) : Type 0 where
   pub sector : ℕ
   pub there : s ≡ sector_size * sector
@@ -126,13 +126,13 @@ pub record IsStart (v : List ℕ) (s : ℕ) : Type 0 where
   pub place : ℕ
   pub sign : IsSign v s place
 
--- a sign of the volume stands before the place `p`
+-- a sign of the volume comes before the place `p`
 pub record HasSignBefore (v : List ℕ) (s p : ℕ) : Type 0 where
   pub place : ℕ
   pub before : place < p
   pub sign : IsSign v s place
 
--- the volume's first sign stands at the place `p`
+-- the volume's first sign is at the place `p`
 pub record IsFirstSign (v : List ℕ) (s p : ℕ) : Type 0 where
   pub sign : IsSign v s p
   pub first : HasSignBefore v s p → ⊥
@@ -143,12 +143,12 @@ pub record IsAmong (list : List ℕ) (n : ℕ) : Type 0 where
   pub within : index < length list
   pub is : slice_index list index ≡ n
 
--- a first sign at the place `p`, of the volume at `s`, comes before one at `q`, of the volume at `t`: it stands before it, or
+-- a first sign at the place `p`, of the volume at `s`, comes before one at `q`, of the volume at `t`: it comes before it, or
 -- at the same place and its volume begins first
 abbrev pub ComesBefore : ℕ → ℕ → ℕ → ℕ → Type 0
 ComesBefore p s q t = (p < q) ⊎ ((p ≡ q) × (s < t))
 
--- the volumes stand in the list in the order of their first signs
+-- the volumes are in the list in the order of their first signs
 abbrev pub AreInOrder : List ℕ → List ℕ → Type 0
 AreInOrder v list = (i j p q : ℕ) → i < j → j < length list → IsFirstSign v (slice_index list i) p → IsFirstSign v (slice_index list j) q
     → ComesBefore p (slice_index list i) q (slice_index list j)

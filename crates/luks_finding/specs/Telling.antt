@@ -17,7 +17,7 @@ starts_of Nothing = []
 starts_of (One s) = s ∷ []
 starts_of (Two s t) = s ∷ t ∷ []
 
--- the list has the volumes whose first sign stands at the place `p`, in ascending order; each other one with a sign there
+-- the list has the volumes whose first sign is at the place `p`, in ascending order; each other one with a sign there
 -- has one before
 pub record AreToldAt (v : List ℕ) (p : ℕ) (list : List ℕ) : Type 0 where
   pub first : (i : ℕ) → i < length list → IsFirstSign v (slice_index list i) p
@@ -77,7 +77,7 @@ pub record HasNearerMetadata (v : List ℕ) (s size : ℕ) : Type 0 where
 abbrev pub HasMetadataOf : List ℕ → ℕ → ℕ → ℕ → Type 0
 HasMetadataOf v s near size = HasMetadata v s (first_copy near) ⊎ ((near < size) × HasMetadata v s (second_copy near))
 
--- a sign of the volume at `s` stands before one of its second copy of this size: a header, a copy or metadata
+-- a sign of the volume at `s` comes before one of its second copy of this size: a header, a copy or metadata
 abbrev pub HasNearer : List ℕ → ℕ → ℕ → Type 0
 HasNearer v s size = BeginsVolume v s ⊎ HasNearerCopy (volume_at v s) size ⊎ HasNearerMetadata v s size
 

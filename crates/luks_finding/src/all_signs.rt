@@ -1,4 +1,4 @@
-//! What a place of a disk tells, whatever stands before it: each volume of which a sign stands there.
+//! What a place of a disk tells, whatever comes before it: each volume of which a sign is there.
 ghost use Rattle.std.specs.Prelude.{◌≡◌, ◌+◌, ◌*◌, ◌^◌, ◌<◌, ◌≤◌, ◌∷◌, [], IfOk, IfSome};
 ghost use Rattle.luks_area.specs.Device.{CountsFailure, IsUnchanged, is_failure};
 ghost use Rattle.luks_area.specs.Ranges.{part};
@@ -19,7 +19,7 @@ use luks_area::{Device, DeviceFault};
 use luks_rebuilding::Place;
 use std::alloc::Global;
 
-/// The starts of all volumes of which a sign stands at this sector, also of those with a sign before.
+/// The starts of all volumes of which a sign is at this sector, also of those with a sign before.
 ///
 /// It reads what such a sign needs, and nothing of other signs of these volumes: of a second copy the
 /// copy, of a JSON area that area, the binary header before it and, where a copy of another volume may
@@ -133,7 +133,7 @@ fn first_sign_of<D: Device>(
     }
 }
 
-/// The same of a second copy.
+/// The sign of a second copy.
 fn second_sign_of<D: Device>(
     alloc: Global,
     device: &mut D,

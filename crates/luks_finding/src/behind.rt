@@ -30,7 +30,7 @@ fn can_be_read<D: Device>(device: &mut D, sector: u64) -> bool
 /// it can't be: it looks by strides that double up to 1 MiB, for one that can be read, and then goes
 /// back by halves to the border. What lies between two sectors that can't be read is taken for the same.
 ///
-/// Where none of 48 strides comes to one, it is the one behind the last sector that was tried.
+/// If none of 48 strides comes to one, it is the one behind the last sector that was tried.
 pub(crate) fn first_behind<D: Device>(device: &mut D, from: u64) -> u64
     requires within { 512 * from < D.size device.old }
     requires room { D.failed device.old + 60 < 2 ^ 64 }

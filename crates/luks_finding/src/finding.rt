@@ -29,7 +29,7 @@ pub enum Step {
     /// Two volumes begin at these places, the first one before the second: the metadata that tells
     /// them doesn't say of which copy it is.
     Two(u64, u64),
-    /// No sign of another one stands in what was looked at.
+    /// No sign of another one is in what was looked at.
     On,
     /// The disk has no more bytes.
     End,
@@ -74,7 +74,7 @@ impl Finding {
         self.sector
     }
 
-    /// Goes on at the sector, whatever stands before it. The next block has this sector alone, and each
+    /// Goes on at the sector, whatever comes before it. The next block has this sector alone, and each
     /// further one twice as many.
     pub fn go_on_at(&mut self, sector: u64)
         requires { sector ≤ 36028797018963968 }
@@ -132,11 +132,11 @@ impl Finding {
         }
     }
 
-    /// The same of a disk that can't be read everywhere, of which the starts in `told` were told: it
-    /// tells the others of which a sign stands at the next sector at which something begins, whatever
-    /// stands before. So none is told twice, and one is told by what is left of it where that can be read.
+    /// Makes a step on a disk that can't be read everywhere, of which the starts in `told` were told: it
+    /// tells the others of which a sign is at the next sector at which something begins, whatever
+    /// comes before. So none is told twice, and one is told by what is left of it where that can be read.
     ///
-    /// A block that can't be read is tried by halves. Where its first sector can't be, that one is passed
+    /// A block that can't be read is tried by halves. If its first sector can't be, that one is passed
     /// over with those behind that can't be either: these are looked for by strides of up to 1 MiB. A sector
     /// at which a sign may begin is passed over where not all can be read that a sign there needs.
     ///

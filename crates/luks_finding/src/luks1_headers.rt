@@ -1,4 +1,4 @@
-//! LUKS1 headers on a disk, whatever stands in the place of their magic.
+//! LUKS1 headers on a disk, whatever is in the place of their magic.
 ghost use Rattle.std.specs.Prelude.{◌≡◌, ◌↔◌, ◌⊎◌, ◌+◌, ◌^◌, ◌<◌, ◌≤◌, codes, IsTrue, IfOk, length};
 ghost use Rattle.luks_area.specs.Ranges.{part};
 ghost use Rattle.luks_area.specs.Device.{CountsFailure, IsUnchanged, is_failure};
@@ -51,7 +51,7 @@ fn is_luks1_header(header: &[u8], total: u64) -> bool
     is_usable_head(header, total)
 }
 
-/// Whether a LUKS1 header begins at the byte `start` of the device, whatever stands in the place of
+/// Whether a LUKS1 header begins at the byte `start` of the device, whatever is in the place of
 /// its magic and its version: one of which `rebuild` makes a header, with nothing given.
 ///
 /// Reads its 592 bytes.

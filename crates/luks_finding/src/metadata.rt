@@ -54,7 +54,7 @@ pub(crate) fn is_whole<D: Device>(
     is_faultless(alloc, &json)
 }
 
-/// Whether a text may stand in the JSON area of `len` bytes at `at`: it begins with a brace, and ends
+/// Whether a text may be in the JSON area of `len` bytes at `at`: it begins with a brace, and ends
 /// with a zero byte.
 fn may_hold_text<D: Device>(device: &mut D, at: u64, len: u64) -> Result<bool, DeviceFault>
     requires some { 0 < len }
@@ -110,7 +110,7 @@ fn is_faultless(alloc: Global, json: &[u8]) -> Result<bool, FindFault>
     faulty(fault)
 }
 
-/// Whether metadata that is refused by this fault has none: it has, but that want of memory leaves it open.
+/// Whether metadata that is refused by this fault has none: it has, but that a failed allocation leaves it open.
 fn faulty(fault: WideFault) -> Result<bool, FindFault>
     ensures { result ≡ faulty fault }
 {

@@ -41,7 +41,7 @@ pub(crate) fn whole_size<D: Device>(
     Ok(None)
 }
 
-/// Whether a sound copy of another volume says that what stands in the place of this copy, of the volume
+/// Whether a sound copy of another volume says that what is in the place of this copy, of the volume
 /// that begins at the sector `sector`, is its other copy. Reads a binary header, and only where that is
 /// of the right form the whole copy.
 pub(crate) fn is_explained<D: Device>(
@@ -70,7 +70,7 @@ pub(crate) fn is_explained<D: Device>(
 }
 
 /// Whether the copy at the place, of the volume that begins at the sector `sector`, has whole metadata,
-/// the other copy's magic doesn't stand before it, and no sound copy of another volume explains it.
+/// the other copy's magic doesn't come before it, and no sound copy of another volume explains it.
 pub(crate) fn has_metadata<D: Device>(
     alloc: Global,
     device: &mut D,
@@ -99,7 +99,7 @@ pub(crate) fn has_metadata<D: Device>(
     Ok(true)
 }
 
-/// Whether the other copy's magic doesn't stand before the copy at the place.
+/// Whether the other copy's magic doesn't come before the copy at the place.
 fn is_own<D: Device>(device: &mut D, sector: u64, place: Place) -> Result<bool, DeviceFault>
     requires inside { 512 * sector + place.at + 6 ≤ D.size device.old }
     requires room { D.failed device.old + 1 < 2 ^ 64 }

@@ -16,7 +16,7 @@ pub struct Passed {
 /// What a step of a search comes to on a disk that can't be read everywhere.
 #[derive(Clone, Copy, PartialEq, Eq)]
 pub enum Further {
-    /// The same as on a disk that can be read.
+    /// A step as on a disk that can be read.
     Step(Step),
     /// Some sectors were passed over.
     Passed(Passed),

@@ -53,7 +53,7 @@ pub(crate) fn look_shorter<D: Device>(
     None
 }
 
-/// Tells those of which a sign stands at the sector and that weren't told, or passes it over.
+/// Tells those of which a sign is at the sector and that weren't told, or passes it over.
 pub(crate) fn judge<D: Device>(
     alloc: Global,
     device: &mut D,

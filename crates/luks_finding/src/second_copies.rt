@@ -20,7 +20,7 @@ use sha2::{Digest, Sha256};
 /// The bytes of a binary header.
 pub(crate) const HEAD: usize = 4096;
 
-/// Where the checksum of a copy stands in its binary header, and where that field ends.
+/// The place of the checksum of a copy in its binary header, and where that field ends.
 const CSUM: usize = 448;
 
 const CSUM_END: usize = 512;
@@ -92,7 +92,7 @@ fn is_formed(head: &[u8], size: u64, total: u64) -> bool
         && has_sha256(&header)
 }
 
-/// The same of a first copy of `size` bytes.
+/// Whether the first copy, of `size` bytes, is formed so.
 fn is_formed_first(head: &[u8], size: u64, total: u64) -> bool
     requires header { length head.now ≡ binary_header_size }
     requires listed { IsListed size }

@@ -14,7 +14,7 @@ pub(crate) const SECTOR: usize = 512;
 /// The bytes of a magic and of the version behind it.
 pub(crate) const BEGINNING: usize = 8;
 
-/// Where the length of the volume key stands in a LUKS1 header, and where that field ends.
+/// The place of the length of the volume key in a LUKS1 header, and where that field ends.
 const KEY_BYTES: usize = 108;
 
 const FIELDS: usize = 112;

@@ -1,4 +1,4 @@
-//! What a place of a disk tells: the volumes whose first sign stands there.
+//! What a place of a disk tells: the volumes whose first sign is there.
 ghost use Rattle.std.specs.Prelude.{◌≡◌, ◌↔◌, ◌+◌, ◌*◌, ◌^◌, ◌<◌, ◌≤◌, length, IsTrue, IfErr, IfOk, IfSome};
 ghost use Rattle.luks_area.specs.Device.{CountsFailure, IsUnchanged, is_failure};
 ghost use Rattle.luks_area.specs.Ranges.{part};
@@ -56,7 +56,7 @@ pub(crate) fn begins_volume<D: Device>(device: &mut D, sector: u64) -> Result<bo
     begins_luks1(device, SECTOR as u64 * sector)
 }
 
-/// The starts of the volumes whose first sign stands at this sector.
+/// The starts of the volumes whose first sign is at this sector.
 ///
 /// Of a second copy there it reads the copy, and where that is sound what may stand nearer to the
 /// start: the 8 bytes there, of each place of a copy the binary header, and the whole copy only where
@@ -134,7 +134,7 @@ fn told_before<D: Device>(
     Ok(Told::One(SECTOR as u64 * start))
 }
 
-/// Whether a sign of the volume that begins at the sector `start` stands before one of its second copy
+/// Whether a sign of the volume that begins at the sector `start` comes before one of its second copy
 /// of `size` bytes.
 fn has_nearer<D: Device>(
     alloc: Global,
@@ -239,7 +239,7 @@ fn begins_with(beginning: &[u8], magic: [u8; 6]) -> bool
     field(beginning, 0, 6) == magic.as_slice()
 }
 
-/// The same of metadata of a second copy of `size` bytes.
+/// The start by metadata of a second copy of `size` bytes.
 fn second_start<D: Device>(
     alloc: Global,
     device: &mut D,

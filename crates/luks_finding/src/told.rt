@@ -1,6 +1,6 @@
 //! What a place of a disk tells.
 
-/// The starts of the volumes whose first sign stands at one place of a disk.
+/// The starts of the volumes whose first sign is at one place of a disk.
 #[derive(Clone, Copy, PartialEq, Eq)]
 pub(crate) enum Told {
     /// There is none.

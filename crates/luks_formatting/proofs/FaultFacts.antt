@@ -1,4 +1,4 @@
--- Where nothing is given, no fault depends on where the payload lies, nor on whether older ciphers are accepted.
+-- If nothing is given, no fault depends on where the payload lies, nor on whether older ciphers are accepted.
 use Rattle.std.proofs.Common.{ℕ, Bool, false, List, Option}
 use Rattle.std.proofs.lemmas.Bool.{false≢true}
 use Rattle.luks_reading.specs.declared.format.Format.{Format}

@@ -49,7 +49,7 @@ length-digest_salt k random long = length-part_inside random (16 + k) 32 (omega 
 pub length-slot_salt : (k : ℕ) (random : List ℕ) → 208 + k ≤ length random → length (slot_salt (slot_place2 k) random) ≡ 32
 length-slot_salt k random long = length-part_inside random (176 + k) 32 (omega (arith, long))
 
--- what is said may stand there
+-- what is said may be there
 pub can_format : (given : Given) (format : Format) (random : List ℕ) → is_sector_size given.sector_size ≡ true → 1 ≤ format.iterations → 208 + given.key_bytes ≤ length random
     → length (key_digest given format random (digest_size_of format.hash)) ≡ digest_size_of format.hash → CanFormat (new_members given format random)
 can_format given format random size some long digest =

@@ -2,7 +2,7 @@ use luks_area::DeviceFault;
 use std::error::Error;
 use std::fmt;
 
-/// Why a volume isn't made: the first in this order, but for want of memory and the device's
+/// Why a volume isn't made: the first in this order, except for a failed allocation and the device's
 /// failure.
 ///
 /// All but the device's failure leave every byte as it was.

@@ -30,7 +30,7 @@ pub fn formatted1_opens()
         → Answer new 0 passphrase (opens (volume_key 64 random)) }
 {}
 
-/// The same of what was formatted where something sound is given: it opens to the key that is.
+/// What was formatted with something sound that is given is well formed, and opens to the key that is given.
 pub fn formatted1_as_opens()
     ensures well_formed { (given : TheGiven) (format : TheFormat)
         (passphrase random old new : List ℕ) → 1 ≤ format.iterations → 2097152 ≤ length new
@@ -74,7 +74,7 @@ pub fn formatted2_by_opens()
         → AnswerWithin allowed new 0 passphrase (opens (volume_key 64 random)) }
 {}
 
-/// The same of what was formatted where something sound is given: it opens to the key that is.
+/// What was formatted with something sound that is given is well formed, and opens to the key that is given.
 pub fn formatted2_as_opens()
     ensures well_formed { (given : TheGiven) (format : TheFormat) (chosen : Option Chosen)
         (passphrase random old new : List ℕ) → 1 ≤ format.iterations → 16777216 ≤ length new
@@ -90,7 +90,7 @@ pub fn formatted2_as_opens()
         → AnswerWithin allowed new 0 passphrase (opens (key_of given random)) }
 {}
 
-/// Where no derivation is chosen and the key has 64 bytes, the metadata is that of a volume whose keyslot derives
+/// If no derivation is chosen and the key has 64 bytes, the metadata is that of a volume whose keyslot derives
 /// by PBKDF2, as the digest.
 pub fn none_chosen_is_as_the_digest()
     ensures { (given : TheGiven) (format : TheFormat) (random : List ℕ) → given.key_bytes ≡ 64

@@ -40,18 +40,18 @@ pub fn format1_random(key_bytes: u32) -> u64
     needed_bytes(false, key_bytes)
 }
 
-/// As many bytes as stand before the payload if nothing is given, and as many sectors as 32 bits tell.
+/// As many bytes as come before the payload if nothing is given, and as many sectors as 32 bits tell.
 const WANTED: Wanted = Wanted {
     most: 1 << 32,
     least: 2097152,
     second: false,
 };
 
-/// Where an older LUKS2 header of the usual metadata size has its second copy. The place lies in the
+/// The place of the second copy of an older LUKS2 header of the usual metadata size. It lies in the
 /// area of keyslot 0.
 const OLDER_SECOND: u64 = 16384;
 
-/// Where the area of keyslot 0 begins, in bytes.
+/// The start of the area of keyslot 0, in bytes.
 const AREA_START: u64 = 4096;
 
 /// Makes a LUKS1 volume whose keyslot 0 opens by the passphrase to a volume key of 64 bytes. What
@@ -111,12 +111,12 @@ pub fn format1<D: Device>(
     format1_as(alloc, device, &given, format, passphrase, false, random)
 }
 
-/// The same of a volume of which something is given: where its payload begins, its key, its uuid, its cipher with
-/// the key's length. Where nothing is it is `format1`. A cipher of older disks is taken only where `older` says so,
+/// Makes a volume for which something is given: where its payload begins, its key, its uuid, its cipher with
+/// the key's length. If nothing is it is `format1`. A cipher of older disks is taken only where `older` says so,
 /// and opens wherever these are accepted.
 ///
 /// The volume key is random or given; of the random bytes there are `format1_random`, also those in whose place a
-/// key or a uuid is given: these aren't used. Where the key has k bytes, each of the 3999 stripes has as many. Each
+/// key or a uuid is given: these aren't used. If the key has k bytes, each of the 3999 stripes has as many. Each
 /// key area begins at a multiple of 4096 bytes, the first one at 4096, one right behind the other.
 /// What lies where the payload begins, and behind it, stays as it is.
 pub fn format1_as<D: Device>(

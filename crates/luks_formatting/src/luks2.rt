@@ -61,7 +61,7 @@ pub fn format2<D: Device>(
     requires room { D.failed device.old + 1 < 2 ^ 64 }
     requires settled { D.tells → IsSettled D.unsettled device.old }
 
-    // The first fault that stands, or want of memory, and then no byte changes; else the device's.
+    // The first fault that stands, or a failed allocation, and then no byte changes; else the device's.
     ensures fault { IfErr result
         (IsAnsweredFaultOrMemory (IsFormat2Fault (D.size device.old) format.now random.now)) }
     ensures faultless { OnOk result
@@ -111,11 +111,11 @@ pub fn format2<D: Device>(
     make(alloc, device, &volume)
 }
 
-/// The same with a keyslot that is derived as is chosen, and takes no more memory than the passphrase
+/// Makes a volume whose keyslot is derived as is chosen, and takes no more memory than the passphrase
 /// allows; where nothing is chosen it is `format2`. It opens wherever as much memory is allowed as it
 /// takes, whether older ciphers and hashes are accepted or not.
 ///
-/// A key area by Argon2 is sealed in memory before the first write, so that want of memory changes no
+/// A key area by Argon2 is sealed in memory before the first write, so that a failed allocation changes no
 /// byte.
 pub fn format2_by<D: Device>(
     alloc: Global,
@@ -129,7 +129,7 @@ pub fn format2_by<D: Device>(
     requires room { D.failed device.old + 1 < 2 ^ 64 }
     requires settled { D.tells → IsSettled D.unsettled device.old }
 
-    // The first fault that stands, or want of memory, and then no byte changes; else the device's.
+    // The first fault that stands, or a failed allocation, and then no byte changes; else the device's.
     ensures fault { IfErr result
         (IsAnsweredFaultOrMemory (IsFormat2FaultBy chosen
         (allowed_for passphrase.now.allowed.memory passphrase.now.bytes.now)
@@ -176,13 +176,13 @@ pub fn format2_by<D: Device>(
     format2_as(alloc, device, &given, format, chosen, passphrase, random)
 }
 
-/// The same of a volume of which something is given: where its payload begins, its key, its uuid, its label and
-/// its subsystem, its cipher with the key's length, the size of its sectors. Where nothing is it is `format2_by`.
+/// Makes a volume for which something is given: where its payload begins, its key, its uuid, its label and
+/// its subsystem, its cipher with the key's length, the size of its sectors. If nothing is it is `format2_by`.
 /// A cipher of older disks is taken only where the passphrase's allowance says so, and opens wherever these are
 /// accepted.
 ///
 /// Of the random bytes there are `format2_random`, also those in whose place a key or a uuid is given: these aren't
-/// used. Where the key has k bytes, each of the 3999 stripes has as many.
+/// used. If the key has k bytes, each of the 3999 stripes has as many.
 /// What lies where the payload begins, and behind it, stays as it is.
 pub fn format2_as<D: Device>(
     alloc: Global,
@@ -196,7 +196,7 @@ pub fn format2_as<D: Device>(
     requires room { D.failed device.old + 1 < 2 ^ 64 }
     requires settled { D.tells → IsSettled D.unsettled device.old }
 
-    // The first fault that stands, or want of memory, and then no byte changes; else the device's.
+    // The first fault that stands, or a failed allocation, and then no byte changes; else the device's.
     ensures fault { IfErr result
         (IsAnsweredFaultOrMemory (IsFormat2FaultAs given.now passphrase.now.allowed.older chosen
         (allowed_for passphrase.now.allowed.memory passphrase.now.bytes.now)

@@ -9,7 +9,7 @@ use crate::random::{DIGEST_SALT, STRIPES, taken_array};
 use luks_reading::{Data, Format};
 use luks2_header::{Luks1, Luks1Common, Luks1Slot, SlotState};
 
-/// Where the salt of keyslot 0 stands among the random bytes, but for the length of the volume key.
+/// The place of the salt of keyslot 0 among the random bytes, the length of the volume key aside.
 pub(crate) const SLOT_SALT: usize = 48;
 
 /// The header, whose keyslot 0 is in use.
@@ -112,7 +112,7 @@ fn free_slot(key_bytes: u32, n: u32) -> Luks1Slot
     }
 }
 
-/// Where the key material of the keyslot `n` begins, in sectors, where keys have so many bytes.
+/// The first sector of the key material of the keyslot `n`, for keys of so many bytes.
 fn material_sector(key_bytes: u32, n: u32) -> u32
     requires small { key_bytes ≤ 64 }
     requires one { n < 8 }

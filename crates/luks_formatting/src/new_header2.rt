@@ -16,16 +16,16 @@ pub(crate) const COPY_SIZE: u64 = 16384;
 /// The length of a copy's JSON area in bytes.
 pub(crate) const JSON_SIZE: usize = 12288;
 
-/// Where the salt of the first copy stands among the random bytes, but for the length of the volume key.
+/// The place of the salt of the first copy among the random bytes, the length of the volume key aside.
 pub(crate) const FIRST_SALT: usize = 48;
 
-/// Where the salt of the second copy stands, likewise.
+/// The place of the salt of the second copy, likewise.
 pub(crate) const SECOND_SALT: usize = 112;
 
-/// Where the salt of keyslot 0 stands, likewise.
+/// The place of the salt of keyslot 0, likewise.
 pub(crate) const SLOT_SALT: usize = 176;
 
-/// Writes the copy of the header that stands at the place `at`, with its salt, and flushes. Also
+/// Writes the copy of the header that is at the place `at`, with its salt, and flushes. Also
 /// where the device fails no byte outside the copy changes.
 pub(crate) fn write_new_copy<D: Device>(
     device: &mut D,

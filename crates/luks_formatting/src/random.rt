@@ -21,13 +21,13 @@ pub(crate) fn taken_array<const N: usize>(random: &[u8], at: usize) -> [u8; N]
     owned
 }
 
-/// Where the uuid's bytes stand.
+/// The place of the uuid's bytes.
 pub(crate) const UUID: usize = 0;
 
-/// Where the volume key's bytes stand.
+/// The place of the volume key's bytes.
 pub(crate) const KEY: usize = 16;
 
-/// Where the 32 bytes of the digest's salt stand, but for the length of the volume key.
+/// The place of the 32 bytes of the digest's salt, the length of the volume key aside.
 pub(crate) const DIGEST_SALT: usize = 16;
 
 /// The length of a salt of a keyslot or a digest in bytes.

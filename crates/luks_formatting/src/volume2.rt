@@ -36,14 +36,14 @@ use luks_slot::{Allowed, AreaCipher, SlotPlan};
 use luks_writing::clear_places;
 use std::alloc::Global;
 
-/// As many bytes as stand before the payload if nothing is given, and as many sectors as 64 bits of bytes tell.
+/// As many bytes as come before the payload if nothing is given, and as many sectors as 64 bits of bytes tell.
 const WANTED: Wanted = Wanted {
     most: 1 << 55,
     least: 16777216,
     second: true,
 };
 
-/// Where the area of keyslot 0 begins, in bytes.
+/// The start of the area of keyslot 0, in bytes.
 const AREA_START: u64 = 32768;
 
 /// A volume that is to be made, and that none of the faults refuses.
@@ -56,7 +56,7 @@ pub(crate) struct Volume<'a> {
     pub(crate) random: &'a [u8],
 }
 
-/// Makes the volume; or answers the first of its faults, or want of memory, and then no byte changes.
+/// Makes the volume; or answers the first of its faults, or a failed allocation, and then no byte changes.
 /// Its passphrase allows memory only if Argon2 takes it.
 pub(crate) fn make<D: Device>(
     alloc: Global,

@@ -1,4 +1,4 @@
--- Keyslots, digests and segments that stand whole in bytes that needn't be JSON.
+-- Keyslots, digests and segments that are whole in bytes that needn't be JSON.
 use Rattle.std.specs.Prelude.{◌≡◌, ℕ, ◌+◌, ◌<◌, ◌≤◌, List, [], ◌∷◌, ◌++◌, length, Option, Some, None}
 use Rattle.luks_area.specs.Ranges.{part}
 use Rattle.luks_json.specs.Number.{number_text}

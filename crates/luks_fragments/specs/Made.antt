@@ -14,7 +14,7 @@ region_start = 32768
 abbrev pub config_text : ℕ → List ℕ
 config_text size = codes "{\"config\":{\"json_size\":\"12288\",\"keyslots_size\":\"" ++ decimal size ++ codes "\"},"
 
--- Digest `m`, which names keyslot `n` and segment 0. Its own names, if it has any, stand before those that count: of two members of
+-- Digest `m`, which names keyslot `n` and segment 0. Its own names, if it has any, come before those that count: of two members of
 -- one name the last does.
 abbrev pub digest_text : ℕ → ℕ → List ℕ → List ℕ
 digest_text m n digest = codes "\"digests\":{\"" ++ number_text m ++ codes "\":" ++ take (length digest - 1) digest

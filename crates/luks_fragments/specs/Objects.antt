@@ -1,4 +1,4 @@
--- Objects that stand whole in bytes that needn't be JSON, by their braces (LUKS2 On-Disk Format 1.1, 3.2 to 3.4). Strings aren't
+-- Objects that are whole in bytes that needn't be JSON, by their braces (LUKS2 On-Disk Format 1.1, 3.2 to 3.4). Strings aren't
 -- looked at: neither keyslots, digests nor segments have braces in theirs, and where text is lost nothing tells which quotes are inside.
 use Rattle.std.specs.Prelude.{ℕ, ◌+◌, ◌==◌, ◌<◌, ◌≤◌, List, length}
 use Rattle.std.specs.List.{count_by}
@@ -11,7 +11,7 @@ opened bytes = count_by (λ b. b == 0x7B) bytes
 abbrev pub closed : List ℕ → ℕ
 closed bytes = count_by (λ b. b == 0x7D) bytes
 
--- an object has no more bytes, and nests no deeper: a keyslot's `kdf`, `af` and `area` stand in it
+-- an object has no more bytes, and nests no deeper: a keyslot's `kdf`, `af` and `area` are in it
 abbrev pub longest : ℕ
 longest = 4096
 

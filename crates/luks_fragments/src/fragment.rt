@@ -7,7 +7,7 @@ use crate::names::number_before;
 use crate::objects::object_len;
 use std::alloc::{AllocError, Global};
 
-/// A keyslot, a digest or a segment that stands whole.
+/// A keyslot, a digest or a segment that is whole.
 #[derive(Debug, Clone, Copy, PartialEq, Eq)]
 pub struct Fragment {
     /// Where it begins, in bytes.
@@ -16,7 +16,7 @@ pub struct Fragment {
     pub len: usize,
     /// What it is.
     pub kind: Kind,
-    /// Its number, 0 to 31, if it stands before it.
+    /// Its number, 0 to 31, if it comes before it.
     pub number: Option<u8>,
 }
 

@@ -28,7 +28,7 @@ const SHORTEST: usize = 32;
 /// The region of key areas, as large as it may be said.
 const WIDEST: u64 = 18446744073709551615;
 
-/// What the object is, if it is one of the three: metadata that is sound but for it is accepted with it in its place. Only
+/// What the object is, if it is one of the three: metadata that is sound except for it is accepted with it in its place. Only
 /// printable bytes are looked at, so that what a disk has by chance costs no reading.
 ///
 /// Takes memory for an area of 12288 bytes and its value. The error comes only where memory was refused.
@@ -136,7 +136,7 @@ fn some_keyslot() -> &'static [u8]
     "{\"type\":\"luks2\",\"key_size\":64,\"af\":{\"type\":\"luks1\",\"stripes\":4000,\"hash\":\"sha256\"},\"area\":{\"type\":\"raw\",\"offset\":\"32768\",\"size\":\"258048\",\"encryption\":\"aes-xts-plain64\",\"key_size\":64},\"kdf\":{\"type\":\"pbkdf2\",\"hash\":\"sha256\",\"iterations\":1000,\"salt\":\"AAAA\"}}".as_bytes()
 }
 
-/// A digest that is sound, but for what it names.
+/// A digest that is sound, except for what it names.
 fn some_digest() -> &'static [u8]
     ensures { result.now ≡ some_digest }
 {

@@ -1,4 +1,4 @@
-//! Keyslots, digests and segments of LUKS2 metadata that stand whole in bytes that needn't be JSON, and
+//! Keyslots, digests and segments of LUKS2 metadata that are whole in bytes that needn't be JSON, and
 //! the metadata that is put together of one of each.
 #![tactic(auto)]
 

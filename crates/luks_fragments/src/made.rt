@@ -93,7 +93,7 @@ fn put_segment(text: &mut Vec<u8>, segment: &[u8]) -> Result<(), AllocError>
     Ok(())
 }
 
-/// The JSON area of the text: zeros stand behind it, if there is room. Without a zero it is no area of metadata.
+/// The JSON area of the text: zeros follow it, if there is room. Without a zero it is no area of metadata.
 pub fn area_of(text: Vec<u8>) -> Result<Vec<u8>, AllocError>
     ensures { IfOk result (λ area. area.items ≡ area_of text.items) }
 {

@@ -1,4 +1,4 @@
-//! The number that stands before an object as its name.
+//! The number that comes before an object as its name.
 ghost use Rattle.std.specs.Prelude.{◌≡◌, ◌↔◌, ◌<◌, ◌≤◌, length, IsTrue};
 ghost use Rattle.luks_fragments.specs.Fragments.{quoted, HasName, IsNamedAt};
 

@@ -29,7 +29,7 @@ pub fn needed_region(alloc: Global, keyslot: &[u8]) -> Result<Option<u64>, Alloc
     Ok(region_of(&meta))
 }
 
-/// The same of keyslot 0 of this metadata.
+/// The region for keyslot 0 of this metadata.
 fn region_of(meta: &Meta) -> Option<u64>
     ensures some { IfSome result (HasRegion (content meta.now)) }
     ensures none { IfNone result ((n : ℕ) → HasRegion (content meta.now) n → 2 ^ 63 < 32768 + n) }

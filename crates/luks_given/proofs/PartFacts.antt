@@ -41,7 +41,7 @@ no_place-at_end r rs apart has = elim has [
 
 -- ---- bytes
 
--- where the same bytes stand in all ranges of these places, they are those of the volume still
+-- where the same bytes are in all ranges of these places, they are those of the volume still
 pub parts-same : (free : ℕ) (rs : List Part) (before : ℕ) (bytes kept v w : List ℕ) → AreApart free rs
     → ((at len : ℕ) → free ≤ at → part w at len ≡ part v at len) → ((at len : ℕ) → before ≤ at → part kept at len ≡ part bytes at len)
     → AreParts rs before bytes v → AreParts rs before kept w

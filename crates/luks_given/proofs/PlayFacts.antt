@@ -77,9 +77,9 @@ part-met_written v at len to first last from fits inside begins ends met =
     ∙ ap (λ n. written (part v at len) n y) (omega (arith, x_long, begins))
     ∙ ap (λ n. written (part v at len) (first - at) (part from n m)) (omega arith)
 
--- ---- what stands there already
+-- ---- what is there already
 
--- a write of what stands there leaves all
+-- a write of what is there leaves all
 written-same : (v : List ℕ) (at n : ℕ) → at + n ≤ length v → written v at (part v at n) ≡ v
 written-same v at n inside =
     let long : length (part v at n) ≡ n = length-part_inside v at n inside in
@@ -87,7 +87,7 @@ written-same v at n inside =
     ∙ ap (λ l. l ++ drop (at + n) v) (sym (take-add at n v))
     ∙ take-append-drop (at + n) v
 
--- a write whose rest stands there already is one of what comes before that
+-- a write whose rest is there already is one of what comes before that
 pub written-front : (v : List ℕ) (at : ℕ) (from : List ℕ) (n : ℕ) → at + length from ≤ length v → n ≤ length from
     → drop n from ≡ part v (at + n) (length from - n) → written v at (take n from) ≡ written v at from
 written-front v at from n fits some same =
@@ -105,7 +105,7 @@ written-front v at from n fits some same =
     ∙ written-written v at kept rest (omega (arith, kept_long, rest_long, some, fits))
     ∙ ap (written v at) (take-append-drop n from)
 
--- where the rest stands there, and what comes before it does, both do
+-- where the rest is there, and what comes before it does, both do
 pub standing-more : (v : List ℕ) (at : ℕ) (from : List ℕ) (start len : ℕ) → start ≤ len → len ≤ length from
     → part from start (len - start) ≡ part v (at + start) (len - start) → drop len from ≡ part v (at + len) (length from - len)
     → drop start from ≡ part v (at + start) (length from - start)

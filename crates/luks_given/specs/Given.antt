@@ -4,7 +4,7 @@ use Rattle.luks_given.specs.declared.given.Given.{Ghosts as OfGiven}
 use Rattle.luks_given.specs.declared.given_parts.GivenParts.{GivenParts}
 use Rattle.luks_given.specs.declared.parts.Part.{Part}
 
--- its bytes: those of the volume of which the ranges are given, whatever stands beside them
+-- its bytes: those of the volume of which the ranges are given, whatever is beside them
 abbrev pub given_bytes : {K : Type 0} {given : OfGiven K} → GivenParts K given → List ℕ
 given_bytes {given = given} device = given.bytes
 

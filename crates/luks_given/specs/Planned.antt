@@ -50,7 +50,7 @@ pub record WantsAsBefore {K : Type 0} {given : OfGiven K} (old new : PlannedWrit
   pub memory : lacked_memory new ≡ lacked_memory old
   pub to_write : wants_to_write new ≡ wants_to_write old
 
--- a call over `len` bytes from the place `at` on failed since a place of them isn't given: it wants all of them that stand there and behind it
+-- a call over `len` bytes from the place `at` on failed since a place of them isn't given: it wants all of them that are there and behind it
 pub record WantsEndOf {K : Type 0} {given : OfGiven K} (at len : ℕ) (old new : PlannedWrites K given) : Type 0 where
   pub missing : HasPlace given.parts (planned_wanted new).at → ⊥
   pub begins : IsAt at len (planned_wanted new).at

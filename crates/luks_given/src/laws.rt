@@ -7,14 +7,14 @@ ghost use Rattle.luks_given.specs.Plan.{WritesGiven, furthest, planned_length, p
 ghost use Rattle.luks_given.specs.declared.parts.Part.{Part as ThePart};
 ghost use Rattle.luks_given.specs.declared.planned_writes.PlannedCall.{PlannedCall as TheCall};
 
-/// A plan that writes the first bytes of a volume alone leaves all that stands behind them.
+/// A plan that writes the first bytes of a volume alone leaves all that follows them.
 pub fn plan_leaves_the_rest()
     ensures { (calls : List TheCall) (bytes first rest : List ℕ) → furthest calls ≤ length first
         → planned_length calls ≤ length bytes
         → played calls bytes (first ++ rest) ≡ played calls bytes first ++ rest }
 {}
 
-/// A plan that writes given places alone leaves all others, whatever stands there.
+/// A plan that writes given places alone leaves all others, whatever is there.
 pub fn plan_keeps_the_others()
     ensures { (parts : List ThePart) (calls : List TheCall) (bytes v : List ℕ)
         → WritesGiven parts calls → furthest calls ≤ length v
@@ -29,7 +29,7 @@ pub fn askings_end()
         → AreAskings parts total askings → length askings + parts_length parts ≤ total }
 {}
 
-/// The same of a call over two volumes, which wants a range of the one or of the other.
+/// A call over two volumes, which wants a range of the one or of the other, is answered in the end too.
 pub fn askings_of_two_end()
     ensures { (source : List ThePart) (n : ℕ) (parts : List ThePart) (total : ℕ) (askings : List (Asking ⊎ Asking))
         → AreRanges source n → AreRanges parts total → AreAskingsOfTwo source n parts total askings

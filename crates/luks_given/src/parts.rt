@@ -44,7 +44,7 @@ fn is_next(last: Option<u64>, left: u64, part: &Part, total: u64) -> bool
     is_behind && part.len <= left && part.at <= total && part.len <= total - part.at
 }
 
-/// Where the bytes from the place `at` to before `end` lie among those that are held; or the first of
+/// The place of the bytes from `at` to before `end` among those that are held; or the first of
 /// these places that isn't given.
 pub(crate) fn find(parts: &[Part], at: u64, end: u64) -> Result<usize, u64>
     requires some { at < end }

@@ -116,7 +116,7 @@ impl<'a, K: Given> PlannedWrites<'a, K> {
         self.bytes.as_slice()
     }
 
-    /// The same, in the place of the device.
+    /// The bytes of the plan's writes, in place of the device.
     pub fn into_bytes(self) -> Vec<u8>
         ensures { result.items ≡ planned_written self.entry }
     {
@@ -140,7 +140,7 @@ impl<'a, K: Given> PlannedWrites<'a, K> {
         }
     }
 
-    /// Whether that call was to write there, and no other has failed: then none asked what stands there. Each
+    /// Whether that call was to write there, and no other has failed: then none asked what is there. Each
     /// call of the device says what becomes of it.
     pub fn is_to_write(&self) -> bool
         ensures value { result ≡ wants_to_write self.now }
@@ -204,7 +204,7 @@ impl<'a, K: Given> PlannedWrites<'a, K> {
     }
 
     /// How many of these bytes have to be written from the place `at` on, which is held from the byte `k` on:
-    /// up to the last sector of 512 in which not all are zeros, here and there. The others stand there.
+    /// up to the last sector of 512 in which not all are zeros, here and there. The others are there.
     fn changing(&self, at: u64, k: usize, from: &[u8]) -> usize
         requires { IsPlaced K.parts 0 at (at + length from.now) k }
         ensures most { result ≤ length from.now }
@@ -305,7 +305,7 @@ fn copy_over(bytes: &mut [u8], at: usize, from: &[u8])
     bytes[at..at + from.len()].copy_from_slice(from);
 }
 
-/// Where among `len` bytes from the place `at` on the last sector begins that they have a byte of, or the
+/// The start, among `len` bytes from the place `at` on, of the last sector that they have a byte of, or the
 /// first of them.
 fn last_sector(at: u64, len: usize) -> usize
     requires { 0 < len }

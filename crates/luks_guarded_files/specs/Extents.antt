@@ -13,7 +13,7 @@ pub record HaveCommonByte (one other : Extent) : Type 0 where
   pub of_one : Covers one at
   pub of_other : Covers other at
 
--- Both are of one disk or file, and have a byte in common. Where a name stands for some bytes of a range, and it isn't told for which,
+-- Both are of one disk or file, and have a byte in common. If a name stands for some bytes of a range, and it isn't told for which,
 -- it is taken to stand for all of them; but two such ranges, as of two mappings over one disk, tell nothing of each other.
 abbrev pub Meet : Extent → Extent → Type 0
 Meet one other = (one.holder ≡ other.holder) × ((one.is_exact ≡ true) ⊎ (other.is_exact ≡ true)) × HaveCommonByte one other

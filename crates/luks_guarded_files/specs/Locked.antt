@@ -32,7 +32,7 @@ abbrev pub IsHeldByAnother : Lock → Type 0
 IsHeldByAnother lock = (lock.node ≡ answer.Taken) ⊎ (lock.name ≡ named.Taken)
 
 -- What the last two answers tell of a name's lock, `before` having been the last one until it was asked for. Held is only what
--- the system answered as held. Where the name is another file's by then, what was held counts as taken.
+-- the system answered as held. If the name is another file's by then, what was held counts as taken.
 abbrev pub IsOfName : Share → Option Asked → Answers → Named → Type 0
 IsOfName way before now named.Unneeded = now.last ≡ before
 IsOfName way before now (named.Held file) = now ≡ asked_after before (asked way answer.Held)

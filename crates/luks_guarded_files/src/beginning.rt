@@ -28,7 +28,7 @@ pub fn begins_with<D: Device>(device: &mut D, bytes: &[u8]) -> Result<bool, Devi
     Ok(true)
 }
 
-/// Whether these bytes, 4096 at most, stand at the place `at`.
+/// Whether these bytes, 4096 at most, are at the place `at`.
 fn holds_piece<D: Device>(device: &mut D, at: u64, piece: &[u8]) -> Result<bool, DeviceFault>
     requires within { at + length piece.now ≤ D.size device.old }
     requires window { length piece.now ≤ 4096 }

@@ -13,7 +13,7 @@ pub const ROOM: usize = 32768;
 /// A device over another one that remembers what was read of its first bytes, and reads them from
 /// memory when they are asked for again. Before a write they are read from the device behind once
 /// more and compared; the write forgets them, and so does a flush, which may fail and change them.
-/// Where one has changed before a write, since something else wrote it, nothing is written: the call
+/// If one has changed before a write, since something else wrote it, nothing is written: the call
 /// fails, and is counted. `GuardedDevice`, behind it, can't be written otherwise.
 ///
 /// It remembers bytes from the place 0 on alone, as many as were read one after the other, and at

@@ -96,7 +96,7 @@ impl FittedFile {
         }
     }
 
-    /// The same, as a target: the first write that changes a byte fails where it turns out to be its source.
+    /// This file as a target: the first write that changes a byte fails if the file turns out to be its source.
     pub fn watching(self, watch: Watch) -> Self {
         self.watch.set(Some(watch));
         self

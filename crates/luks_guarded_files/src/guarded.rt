@@ -95,7 +95,7 @@ impl<D: Device> GuardedDevice<D> {
         self.device.read_at(at, into)
     }
 
-    /// Compares the beginning of the device with these bytes. Where one differs, the call fails, and is
+    /// Compares the beginning of the device with these bytes. If one differs, the call fails, and is
     /// counted as a change that was seen; nothing is written by it.
     pub fn compare(&mut self, bytes: &[u8]) -> Result<Same, DeviceFault>
         requires within { length bytes.now ≤ guarded_size self.old }

@@ -5,7 +5,7 @@ use crate::layers::Sysfs;
 use crate::system::System;
 use std::alloc::{AllocError, Global};
 
-/// Where sysfs has a folder for each block device, MAJOR:MINOR.
+/// The folder in which sysfs has a folder for each block device, MAJOR:MINOR.
 pub const BLOCKS: &str = "/sys/dev/block";
 
 /// How many ranges are followed down at most, beneath one name.
@@ -23,7 +23,7 @@ pub struct Stretch<'a> {
 }
 
 /// Whether both names are of one file: they are equal, or lead to one file by symbolic or hard links,
-/// or to one block device by two nodes. Where one of them leads to no file, they aren't. No file is
+/// or to one block device by two nodes. If one of them leads to no file, they aren't. No file is
 /// opened.
 pub fn is_same_file<S: System>(system: &mut S, one: &str, other: &str) -> bool
     ensures { one.now ≡ other.now → IsTrue result }

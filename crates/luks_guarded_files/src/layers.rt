@@ -10,7 +10,7 @@ const SECTOR: u64 = 512;
 /// The room for what a file or a folder of sysfs tells, in bytes.
 const TEXT: usize = 4096;
 
-/// Where sysfs has a folder for each block device, and how the memory for names is taken.
+/// The folder in which sysfs has a folder for each block device, and how the memory for names is taken.
 #[derive(Clone, Copy)]
 pub(crate) struct Sysfs<'a> {
     pub(crate) alloc: Global,
@@ -42,7 +42,7 @@ impl Sysfs<'_> {
     }
 
     /// Adds what these bytes of a block device are beneath it: of a partition, bytes of its disk; of a
-    /// loop device, bytes of its file; of a device over others, any bytes of each. Where nothing is told,
+    /// loop device, bytes of its file; of a device over others, any bytes of each. If nothing is told,
     /// or it can't be read, the device is taken for a disk of its own.
     pub(crate) fn beneath<S: System>(
         &self,

@@ -14,7 +14,7 @@ use std::alloc::Global;
 use std::fs::File;
 use std::io;
 
-/// Where cryptsetup's files stand for block devices.
+/// The folder of cryptsetup's files for block devices.
 pub const FOLDER: &str = "/run/cryptsetup";
 
 /// How often a lock is asked for: with the pauses between, for at most 3 s.

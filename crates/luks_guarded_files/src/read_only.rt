@@ -5,7 +5,7 @@ use crate::system::System;
 use std::alloc::Global;
 
 /// Whether the system lets nobody write to the block device of these numbers, as it tells in sysfs. It
-/// opens such a device for writing all the same, and fails the writes. Where that can't be read, it
+/// opens such a device for writing all the same, and fails the writes. If that can't be read, it
 /// isn't known to be so.
 pub(crate) fn is_read_only<S: System>(alloc: Global, system: &mut S, node: Node) -> bool
     ensures { S.answers system.new ≡ S.answers system.old }

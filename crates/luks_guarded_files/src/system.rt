@@ -188,13 +188,13 @@ pub trait System {
         ensures found { IfOk result (λ f. found self.new ≡ Some f) }
         ensures unfound { IfErr result (λ _. found self.new ≡ None) };
 
-    /// The same, of a symbolic link of itself.
+    /// What the system says of the name itself, if it is a symbolic link.
     fn lstat(&mut self, path: &str) -> io::Result<Found>
         ensures answers { answers self.new ≡ answers self.old }
         ensures found { IfOk result (λ f. found self.new ≡ Some f) }
         ensures unfound { IfErr result (λ _. found self.new ≡ None) };
 
-    /// The same, of a file that is open.
+    /// What the system says of a file that is open.
     fn fstat(&mut self, file: &File) -> io::Result<Found>
         ensures answers { answers self.new ≡ answers self.old }
         ensures found { IfOk result (λ f. found self.new ≡ Some f) }

@@ -50,7 +50,7 @@ impl Watch {
         })
     }
 
-    /// Writes the first 512 bytes of these at most to the target, and answers how many. Where that changes
+    /// Writes the first 512 bytes of these at most to the target, and answers how many. If that changes
     /// a byte of it, the source is read again; and where that has changed, the target is its source: these
     /// bytes are put back, and the write fails.
     pub(crate) fn write(&self, target: &File, from: &[u8], at: u64) -> io::Result<usize>

@@ -1,4 +1,4 @@
--- A LUKS1 header that is made of one that was found near to what stands in the volume `v`, and what is answered then.
+-- A LUKS1 header that is made of one that was found near to what is in the volume `v`, and what is answered then.
 use Rattle.std.specs.Prelude.{◌≡◌, ℕ, List, None, ⊤}
 use Rattle.luks_area.specs.Ranges.{part, SameBut}
 use Rattle.luks_area.specs.declared.area.Area.{Area}
@@ -29,7 +29,7 @@ pub record IsHeadedHeader (v h : List ℕ) (given : Given) (old new : List ℕ) 
 abbrev pub KeepsHeaded : List ℕ → Given → List ℕ → List ℕ → List ℕ → Type 0
 KeepsHeaded h given volume old new = SameBut (IsOfRebuilt (headed volume h) given) old new
 
--- whether that header, or the volume's, counts is no matter: so LUKS1 answers as without a passphrase, but for `Counts`
+-- whether that header, or the volume's, counts is no matter: so LUKS1 answers as without a passphrase, except for `Counts`
 abbrev pub IsHeadedAnswer : Type 0 → List ℕ → Given → Pair → Answer → Type 0
 IsHeadedAnswer tells h given d (Done slot) = NoneFailed d × (slot ≡ None)
     × (tells → IsMakeable (headed d.volume h) given d.total) × (tells → IsHeadedHeader d.volume h given d.old d.new)

@@ -104,7 +104,7 @@ IsLuks2Answer tells which given random d a = ⊥
 
 -- ---- a LUKS1 header, of its fields and keyslots
 
--- `new` is the target `old` after a header was made on it of what stands in the volume `v`, and of what is given
+-- `new` is the target `old` after a header was made on it of what is in the volume `v`, and of what is given
 pub record IsNewHeader1 (v : List ℕ) (given : Given) (old new : List ℕ) : Type 0 where
   pub rebuilt : IsRebuilt1 v given old new
   pub well_formed : WellFormed new Elsewhere
@@ -128,7 +128,7 @@ IsLuks1Answer tells given d a = ⊥
 -- ---- either
 
 -- such a fault of LUKS2 leads to LUKS1, by the volume's first 592 bytes: no metadata is whole, and they aren't those of a
--- LUKS2 header; or a LUKS1 header stands there, accepted or not
+-- LUKS2 header; or a LUKS1 header is there, accepted or not
 abbrev pub Leads : List ℕ → RebuildFault → Type 0
 Leads h fault.NoMetadata = version_of h ≢ 2
 Leads h fault.Counts = HasMagic h × (version_of h ≡ 1)

@@ -1,4 +1,4 @@
--- The segment of LUKS2 metadata that the words of a command line give, where none stands whole (LUKS2 On-Disk Format 1.1, 3.3).
+-- The segment of LUKS2 metadata that the words of a command line give, where none is whole (LUKS2 On-Disk Format 1.1, 3.3).
 use Rattle.std.specs.Prelude.{◌≡◌, ℕ, ◌*◌, ◌≤◌, List, ◌∷◌, ◌++◌, length, Option, Some, None, option_map}
 use Rattle.arrayvec.specs.ArrayString.{ArrayString}
 use Rattle.luks_piecing.specs.declared.given.GivenSegment.{GivenSegment}

@@ -52,7 +52,7 @@ pub record IsWithoutRandom (tells : Type 0) (unread : InputFault → Type 0) (d 
 abbrev pub IsOtherTarget : List ℕ → List ℕ → Type 0
 IsOtherTarget v t = (field_ : Option (List ℕ)) × IsUuidOf v field_ × HasOther field_ t
 
--- what stands on the target bars the command, and nothing was done
+-- what is on the target bars the command, and nothing was done
 abbrev pub IsBarredHeader : Type 0 → Bool → Pair → Answer → Type 0
 IsBarredHeader tells over d a =
     IsHeldBack tells (IsBar tells over (IsOtherTarget d.volume d.old) d.old) (λ is_failure. CountsAfter is_failure d.volume_before d.volume_after d.before d.after) d.old d.new a
@@ -74,7 +74,7 @@ AnswersHeader {D} tells size bytes failed over says unread HasRandom (Ok volume)
 AnswersHeader {D} tells size bytes failed over says unread HasRandom (Err fault) volume_new old new a = a ≡ unread_answer fault
 AnswersHeader {D} tells size bytes failed over says unread HasRandom volume volume_new old new a = ⊥
 
--- Where the target has such a header or another use, that may not be written over, and both files are there and tell their bytes:
+-- If the target has such a header or another use, that may not be written over, and both files are there and tell their bytes:
 -- no byte of it changes, and that is what bars the command.
 abbrev pub HoldsBackHeader : {D : Type 0} → Type 0 → (D → List ℕ) → Bool → Result D InputFault → Result D InputFault → Result D InputFault → Answer → Type 0
 HoldsBackHeader tells bytes over (Ok volume) (Ok old) (Ok new) a = tells → HoldsBack over (IsOtherTarget (bytes volume) (bytes old)) (bytes old) (bytes new) a

@@ -95,7 +95,7 @@ pub(crate) trait HeaderWork {
 
 /// Does the work, or answers which of the files is missing: the volume is looked at before the target,
 /// and the random bytes are read last. Nothing is done where the target is the volume itself, nor, unless
-/// it may be, where another volume's header or another use stands there.
+/// it may be, where another volume's header or another use is there.
 #[tactic(auto, using(luks_commands::proofs::FileFacts::keeps_same, luks_commands::proofs::BesideFacts::leaves_same, luks_commands::proofs::BesideFacts::settles_same))]
 pub(crate) fn make_header<
     W: HeaderWork,

@@ -13,7 +13,7 @@ use luks1_header::TextField;
 use luks1_rebuilding::{Given, Rebuild1Fault, rebuild1};
 use std::io::Write;
 
-/// Makes a LUKS1 header of what still stands of one in the volume, and of what is given, on the target.
+/// Makes a LUKS1 header of what is left of one in the volume, and of what is given, on the target.
 pub(crate) fn make_of_fields<D: Device, E: Write>(
     volume: &mut D,
     target: &mut D,
@@ -47,7 +47,7 @@ pub(crate) fn make_of_fields<D: Device, E: Write>(
     }
 }
 
-/// What is answered where this fault ended it. Where a device failed, it is that of the file of this name.
+/// What is answered where this fault ended it. If a device failed, it is that of the file of this name.
 pub(crate) fn not_of_fields<E: Write>(
     fault: Rebuild1Fault,
     file: &str,

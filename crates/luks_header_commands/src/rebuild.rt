@@ -31,13 +31,13 @@ use std::io::{Read, Write};
 /// Makes a detached header out of what is still whole in the volume of this name, at this place of it, on
 /// the target. The random bytes are read last, also where LUKS1 is meant, which takes none.
 ///
-/// Where neither version is meant LUKS2's metadata comes first. LUKS1 answers where none is whole and the
+/// If neither version is meant LUKS2's metadata comes first. LUKS1 answers where none is whole and the
 /// volume doesn't begin as a LUKS2 header, or where a LUKS1 header counts, accepted or not; but where the
 /// volume has no signs of one, LUKS2's answer stays.
 ///
 /// With a passphrase, which is read before the volume: what of a LUKS1 header's cipher, hash and length of the key
 /// isn't given is tried (`try_combinations`), and the header is made with the first combination by which a keyslot
-/// opens. Where what is damaged is sought, too, and none does, it is made of a header that is near to what stands and
+/// opens. If what is damaged is sought, too, and none does, it is made of a header that is near to what stands and
 /// by which a keyslot opens (`search1`). Nothing is written before one has. `progress` is told of each combination and
 /// of each derivation, and of a search for what checksums vouch for.
 pub fn run<

@@ -27,7 +27,7 @@ use std::io::Write;
 /// keyslots that are searched, and of its entry.
 const EACH: u32 = 1 + 320 + 384;
 
-/// Where the entries of the keyslots begin, and how long each is, in bytes.
+/// The start of the entries of the keyslots, and how long each is, in bytes.
 const ENTRIES: usize = 208;
 
 const ENTRY: usize = 48;

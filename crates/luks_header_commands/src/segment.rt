@@ -1,4 +1,4 @@
-//! The segment of LUKS2 metadata that is given, where none stands whole.
+//! The segment of LUKS2 metadata that is given, where none is whole.
 ghost use Rattle.std.specs.Prelude.{◌≡◌, ◌+◌, ◌*◌, ◌<◌, ◌≤◌, ◌∷◌, ◌++◌, ℕ, List, length, IfNone, IfSome};
 ghost use Rattle.luks_header_commands.specs.Segment.{longest_cipher, HasCipher, IsGivenCipher, IsGivenSegment};
 

@@ -22,13 +22,13 @@ pub record Json (area : List ℕ) (j : Data) : Type 0 where
   pub utf8 : IsUtf8 text
   pub reads : read text ≡ Some j
 
--- a text stands in the area, and it isn't UTF-8 or no value
+-- a text is in the area, and it isn't UTF-8 or no value
 pub record IsBadJson (area : List ℕ) : Type 0 where
   pub text : List ℕ
   pub placed : JsonText area text
   pub bad : IsUtf8 text → read text ≡ None
 
--- what an area is refused for: `Memory` only where a text stands in it
+-- what an area is refused for: `Memory` only where a text is in it
 abbrev pub IsJsonFault : List ℕ → JsonFault → Type 0
 IsJsonFault area fault.JsonArea = (text : List ℕ) → JsonText area text → ⊥
 IsJsonFault area fault.BadJson = IsBadJson area

@@ -3,7 +3,7 @@ use Rattle.std.specs.Prelude.{◌≡◌, ℕ, ◌<◌, ◌^◌, ◌&&◌, nat_lt
 use Rattle.std.specs.Str.{bytes_eq}
 use Rattle.std.specs.Str.Parse.{digits_value}
 
--- LUKS2 1.1, section 3.1: a number of 64 bits stands in the metadata as a string of its decimal digits, without leading zeros.
+-- LUKS2 1.1, section 3.1: a number of 64 bits is in the metadata as a string of its decimal digits, without leading zeros.
 pub record IsDecimal (text : List ℕ) (n : ℕ) : Type 0 where
   pub fits : n < 2 ^ 64
   pub digits : text ≡ decimal n

@@ -1,4 +1,4 @@
--- Bytes that stand in the metadata as base64.
+-- Bytes that are in the metadata as base64.
 use Rattle.std.specs.Prelude.{◌≡◌, ℕ, ◌≤◌, ◌&&◌, nat_lt, nat_le, true, List, length, codes, Option, Some, None, if◌then◌else◌}
 use Rattle.std.specs.List.{list_all}
 use Rattle.std.specs.Str.{bytes_eq}

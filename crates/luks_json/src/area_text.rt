@@ -19,7 +19,7 @@ pub(crate) fn json_text(area: &[u8]) -> Option<&[u8]>
     Some(&area[..end])
 }
 
-// Where the first zero byte is, or the length where there is none.
+// The place of the first zero byte, or the length if there is none.
 fn first_zero(bytes: &[u8]) -> usize
     ensures within { result ≤ length bytes.now }
     ensures before { (k : ℕ) → k < result → slice_index bytes.now k ≢ 0 }

@@ -45,7 +45,7 @@ pub fn names_say_numbers()
 {}
 
 /// What the steps over an array of names find is said by the texts that the array has: it has a text,
-/// each of its texts is the name of a member, each stands in it once.
+/// each of its texts is the name of a member, each is in it once.
 pub fn arrays_hold_texts()
     ensures has { (t : List ℕ) (items : Items) → (has_text t items ≡ true) ↔ HasName items t }
     ensures there { (map : Option Data) (items : Items) → (all_there map items ≡ true)

@@ -1,5 +1,5 @@
 #![tactic(auto)]
-//! The JSON area of a LUKS2 header: its text and value, and what stands in the value's texts and arrays.
+//! The JSON area of a LUKS2 header: its text and value, and what is in the value's texts and arrays.
 
 mod area_text;
 mod arrays;

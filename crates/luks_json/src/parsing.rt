@@ -13,7 +13,7 @@ use std::alloc::Global;
 
 /// The value that the area holds (LUKS2 On-Disk Format 1.1, section 3.1; RFC 8259).
 ///
-/// Memory is taken for the value alone, where a text stands in the area.
+/// Memory is taken for the value alone, where a text is in the area.
 pub fn read_json(alloc: Global, area: &[u8]) -> Result<Value, JsonFault>
     ensures json { IfOk result (λ v. Json area.now (view v)) }
     ensures nests { IfOk result (λ v. depth (view v) ≤ max_depth) }

@@ -64,7 +64,7 @@ module _ (v : List ℕ) (places : Places) (apart : AreApart places) (there : Are
         let header = there.header in
         zeros_stand (zeroed xs v) (as_copied places xs v) 0 places.lead (omega (arith, before, header, lead)) refl
 
-    -- what stands in the header's places behind that is its own
+    -- what is in the header's places behind that is its own
     header_part : (at n : ℕ) → places.lead ≤ at → at + n ≤ header_end places → part (as_copied places xs v) at n ≡ part v at n
     header_part at n low high = part-same_but at n but (λ p here other. elim other [
       | inl front ↦ (let from = here.0 in let end_ = front.1 in absurd (omega (arith, low, from, end_)))

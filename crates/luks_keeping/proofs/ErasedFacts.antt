@@ -7,7 +7,7 @@ use Rattle.luks_keeping.specs.Places.{AreApart, AreInside, IsOfPlaces}
 use Rattle.luks_keeping.specs.SecondPlaces.{AreZeros, IsOfListed}
 use Rattle.luks_keeping.specs.declared.places.Places.{Places}
 
--- zeros that were written at a place stand there
+-- zeros that were written at a place are there
 pub zeros_stand : (u v : List ℕ) (at n : ℕ) → at + n ≤ length u → v ≡ written u at (replicate n 0) → part v at n ≡ replicate n 0
 zeros_stand u v at n inside is =
     let long : length (replicate {A = ℕ} n 0) ≡ n = length-replicate {A = ℕ} n 0 in

@@ -95,7 +95,7 @@ module _ (h : Header) (identity : Identity) (own : IsIdentity h identity) where
         is = numbered_by one.number salt bytes one.is (slice_index_or identity.digests one.number None) refl (own.digests.each one.number one.numbered);
       }
 
--- the digest that stands at a number
+-- the digest that is at a number
 pub digest_told : (identity : Identity) (n : ℕ) (d : KeyDigest) → slice_index_or identity.digests n None ≡ Some d → (salt bytes : List ℕ) → HasNumbered identity n salt bytes
     → (d.salt.items ≡ salt) × (d.bytes.items ≡ bytes)
 digest_told identity n d e salt bytes x =

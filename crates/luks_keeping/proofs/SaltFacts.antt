@@ -66,7 +66,7 @@ second_there o p y e f = (gone o e, (y.bytes.items, there p y f))
 pub none_there : (o p : Option Salt) → o ≡ None → p ≡ None → StandsSo (IsListedSalt o) (IsListedSalt p) Absent
 none_there o p e f = (gone o e, gone p f)
 
--- whatever stands behind the list's end
+-- whatever follows the list's end
 pub stands_at : (o p : List (Option Salt)) (n : ℕ) (d e : Option Salt) (state : Keeping) → n < length o → n < length p
     → StandsSo (IsListedSalt (slice_index_or o n d)) (IsListedSalt (slice_index_or p n e)) state
     → StandsSo (IsListedSalt (slice_index_or o n None)) (IsListedSalt (slice_index_or p n None)) state

@@ -1,4 +1,4 @@
--- A volume whose header and key areas stand on another device makes a volume there that opens alike.
+-- A volume whose header and key areas are on another device makes a volume there that opens alike.
 use Rattle.std.proofs.Common.{◌≡◌, ℕ, ◌+◌, ◌≤◌, List, length, refl, subst, arith}
 use Rattle.std.specs.Bool.{⊤}
 use Rattle.luks_area.specs.declared.area.AreaName.TheVariants.{Head1, Head2}

@@ -1,4 +1,4 @@
--- The order in which a backup is made over what stands in its file: what may be left at any time.
+-- The order in which a backup is made over what is in its file: what may be left at any time.
 use Rattle.std.specs.Prelude.{◌⊎◌, ℕ, List}
 use Rattle.luks_area.specs.Ranges.{IsAt, IsOfEither, SameBut}
 use Rattle.luks_writing.specs.Cleared.{cleared_size, IsCleared}

@@ -33,7 +33,7 @@ header_size v (luks2 o copies) = 2 * hdr_size (header_at v o)
 header_size v nothing = 0
 
 -- the bytes from 0 on that aren't kept: a first copy that isn't sound loses its first sector. So it counts
--- nowhere, whatever stands behind the header on another device
+-- nowhere, whatever follows the header on another device
 abbrev pub lead_of : Copies → ℕ
 lead_of InStep = 0
 lead_of FirstNewer = 0

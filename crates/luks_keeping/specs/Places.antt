@@ -1,4 +1,4 @@
--- Where a header and its key areas stand on a device, whichever its version: words of private contracts.
+-- Where a header and its key areas are on a device, whichever its version: words of private contracts.
 use Rattle.std.specs.Prelude.{◌≡◌, ◌≢◌, ◌⊎◌, ℕ, ◌+◌, ◌-◌, ◌<◌, ◌≤◌, List, Some, None, min, replicate, slice_index, slice_index_or}
 use Rattle.luks_area.specs.Area.{AreDisjoint}
 use Rattle.luks_area.specs.Ranges.{part, IsAt, IsOfEither, SameBut}
@@ -16,7 +16,7 @@ HasPlace places n a = (n < 32) × (slice_index_or places.areas n None ≡ Some a
 abbrev pub header_end : Places → ℕ
 header_end places = places.first + places.second
 
--- the key areas stand behind the header, and no two of them meet
+-- the key areas follow the header, and no two of them meet
 pub record AreApart (places : Places) : Type 0 where
   pub behind : (n : ℕ) (a : Area) → HasPlace places n a → (p : ℕ) → IsAt a.start a.len p → header_end places ≤ p
   pub disjoint : (m n : ℕ) (a b : Area) → HasPlace places m a → HasPlace places n b → m ≢ n → AreDisjoint a b
@@ -74,7 +74,7 @@ CopiesInTurn places s old new =
     ⊎ (((part new 0 places.first ≡ part old 0 places.first) × HoldsAreas places s new)
     ⊎ HoldsAllButFirst places s new)
 
--- ---- writing over what stands there
+-- ---- writing over what is there
 
 -- the bytes that are cleared of each copy's place
 abbrev pub first_cleared : Places → ℕ
@@ -105,7 +105,7 @@ ClearsInTurn places old new = SameBut (IsAt 0 (first_cleared places)) old new �
 abbrev pub IsOfWhole : Places → ℕ → Type 0
 IsOfWhole places = IsOfEither (IsAt 0 (header_end places)) (IsOfAreas places)
 
--- the bytes at these places are zeros, but for the header and the key areas
+-- the bytes at these places are zeros, except for the header and the key areas
 abbrev pub ArePlacesGone : Places → (ℕ → Type 0) → List ℕ → Type 0
 ArePlacesGone places cleared new = (p : ℕ) → cleared p → (IsOfWhole places p → ⊥) → slice_index new p ≡ 0
 

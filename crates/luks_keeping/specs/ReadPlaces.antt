@@ -35,7 +35,7 @@ pub record IsPieceIn (start len : ℕ) (piece : Area) : Type 0 where
   pub some : 1 ≤ piece.len
   pub most : piece.len ≤ 512
 
--- `w` has these bytes of `s`, but for zeros in the pieces
+-- `w` has these bytes of `s`, except for zeros in the pieces
 pub record HoldsBut (pieces : List Area) (s w : List ℕ) (start len : ℕ) : Type 0 where
   pub zeros : (p : ℕ) → IsAt start len p → IsOfPieces pieces p → slice_index w p ≡ 0
   pub read : (p : ℕ) → IsAt start len p → (IsOfPieces pieces p → ⊥) → slice_index w p ≡ slice_index s p

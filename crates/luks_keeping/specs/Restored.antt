@@ -34,7 +34,7 @@ pub record IsOfOlder (b : List ℕ) (payload : Data) (choice : Choice) (old : Li
 
 -- ---- what is restored
 
--- the bytes at these places are zeros, but for what is kept of the backup
+-- the bytes at these places are zeros, except for what is kept of the backup
 abbrev pub AreGone : (ℕ → Type 0) → List ℕ → Choice → List ℕ → Type 0
 AreGone places b choice new = (p : ℕ) → places p → (IsKept b choice p → ⊥) → slice_index new p ≡ 0
 
@@ -42,7 +42,7 @@ AreGone places b choice new = (p : ℕ) → places p → (IsKept b choice p → 
 abbrev pub IsOfChanged : List ℕ → Data → Choice → List ℕ → ℕ → Type 0
 IsOfChanged b payload choice old = IsOfEither (IsKept b choice) (IsOfOlder b payload choice old)
 
--- `new` has the header and the key areas of the backup `b`; all other bytes are those of `old`, but for zeros in
+-- `new` has the header and the key areas of the backup `b`; all other bytes are those of `old`, except for zeros in
 -- the first sectors of older copies
 pub record IsRestored (b : List ℕ) (payload : Data) (old new : List ℕ) : Type 0 where
   pub choice : Choice

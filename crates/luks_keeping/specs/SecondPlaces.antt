@@ -6,7 +6,7 @@ use Rattle.luks_writing.specs.Cleared.{cleared_size}
 use Rattle.luks2_header.specs.Header2.{second_magic}
 use Rattle.luks2_header.specs.Sizes.{IsListed}
 
--- a second copy begins at the place: its magic stands there
+-- a second copy begins at the place: its magic is there
 pub record BeginsCopy (v : List ℕ) (place : ℕ) : Type 0 where
   pub listed : IsListed place
   pub magic : part v place 6 ≡ second_magic

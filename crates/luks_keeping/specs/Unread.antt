@@ -1,4 +1,4 @@
--- Pieces of a volume that couldn't be read, and what stands in their place.
+-- Pieces of a volume that couldn't be read, and what is in their place.
 use Rattle.std.specs.Prelude.{◌⊎◌, ℕ, List, [], ◌∷◌, replicate}
 use Rattle.luks_area.specs.Ranges.{written, IsAt}
 use Rattle.luks_area.specs.declared.area.Area.{Area}

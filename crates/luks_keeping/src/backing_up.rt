@@ -36,7 +36,7 @@ use std::alloc::Global;
 ///
 /// `payload` says where the source's payload lies. Of a LUKS1 volume the backup reaches to the payload, or
 /// to the end of the last key area where the payload lies elsewhere; of a LUKS2 volume to the end of the
-/// key areas' region. Where only the second copy of a LUKS2 header is sound, the first sector of the
+/// key areas' region. If only the second copy of a LUKS2 header is sound, the first sector of the
 /// first copy's place holds zeros.
 ///
 /// First the sector at 0 becomes zeros, and those where a second copy may begin, then the whole range, then
@@ -60,7 +60,7 @@ pub fn backup<S: Device, T: Device>(
     ensures size { T.size target.new ≡ T.size target.old }
     ensures settled { T.tells → OnOk result (IsSettled T.unsettled target.new) }
 
-    // The first fault that stands, or want of memory, and then nothing of the target changed.
+    // The first fault that stands, or a failed allocation, and then nothing of the target changed.
     ensures fault { S.tells → IfErr result
         (IsAnsweredBackup (S.bytes source.old) payload (T.size target.old)) }
     ensures faultless { S.tells → OnOk result
@@ -139,7 +139,7 @@ pub(crate) fn fitting_size(header: &Header, payload: Data, total: u64) -> Result
     }
 }
 
-/// Writes zeros over the first `size` bytes of the target, and then what stands at these places of the source,
+/// Writes zeros over the first `size` bytes of the target, and then what is at these places of the source,
 /// each at its own place, a flush after each.
 pub fn write_backup<S: Device, T: Device>(
     source: &mut S,

@@ -7,7 +7,7 @@ use luks_reading::CheckFault;
 use std::error::Error;
 use std::fmt;
 
-/// Why no backup of a volume's header is made: the first in this order, but for want of memory and a
+/// Why no backup of a volume's header is made: the first in this order, except for a failed allocation and a
 /// device's failure.
 ///
 /// All but a device's failure leave every byte of the target as it was. None changes the source.

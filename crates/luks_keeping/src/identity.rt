@@ -10,7 +10,7 @@ use arrayvec::ArrayVec;
 use luks_meta::Meta;
 use luks_reading::Header;
 
-/// Where the digest of the volume key stands in a LUKS1 header, behind it its salt, and then the uuid's field.
+/// The place of the digest of the volume key in a LUKS1 header. Its salt follows, and then the uuid's field.
 const DIGEST: usize = 112;
 
 const SALT: usize = 132;

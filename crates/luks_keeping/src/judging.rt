@@ -39,7 +39,7 @@ pub(crate) fn judge_header(header: &Header, payload: Data, total: u64) -> Result
     }
 }
 
-/// The same of a LUKS2 header with accepted metadata.
+/// Judges a LUKS2 header with accepted metadata.
 fn judge_luks2(meta: &Meta, header: &Bin2, payload: Data, total: u64) -> Result<(), CheckFault>
     ensures fits { OnOk result
         (Fit (Luks2Area (content meta.now) header.now.hdr_size payload total) total) }

@@ -13,7 +13,7 @@ ghost use Rattle.luks_keeping.specs.Kept.{HasKept};
 ghost use Rattle.luks_keeping.specs.Restored.{IsRestored};
 ghost use Rattle.luks_keeping.specs.SecondPlaces.{BeginsCopy};
 
-/// Where all that is kept of a well formed volume stands on another device that is long enough, a
+/// If all that is kept of a well formed volume is on another device that is long enough, a
 /// volume is well formed there, and each of its keyslots answers each passphrase, whatever is allowed,
 /// as the volume's does.
 pub fn kept_keyslots_answer_alike()

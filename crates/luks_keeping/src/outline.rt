@@ -24,7 +24,7 @@ pub struct Outline {
     pub(crate) identity: Identity,
     /// The salts of the keyslots that are in use, by their numbers.
     pub(crate) salts: [Option<Salt>; 32],
-    /// Where the header and its key areas stand.
+    /// The place of the header and its key areas.
     pub(crate) places: Places,
 }
 

@@ -1,4 +1,4 @@
-//! Where a header and its key areas stand on a device.
+//! Where a header and its key areas are on a device.
 
 use luks_area::Area;
 

@@ -28,7 +28,7 @@ use luks_reading::Data;
 use std::alloc::Global;
 
 /// Writes a backup as `backup` does, of a volume on a disk that can't be read everywhere: where a read within a
-/// key area fails, zeros stand in the target for that sector of 512 bytes, counted from the area's start, and the
+/// key area fails, zeros are in the target for that sector of 512 bytes, counted from the area's start, and the
 /// keyslot is told; None where all could be read. The header has to be read.
 ///
 /// The key areas are read by sectors as `backup` reads them, and no sector of one is asked for twice. A fault of
@@ -55,7 +55,7 @@ pub fn rescue<S: Device, T: Device>(
     ensures size { T.size target.new ≡ T.size target.old }
     ensures settled { T.tells → OnOk result (IsSettled T.unsettled target.new) }
 
-    // The first fault that stands, or want of memory, and then nothing of the target changed.
+    // The first fault that stands, or a failed allocation, and then nothing of the target changed.
     ensures fault { S.tells → IfErr result
         (IsAnsweredBackup (S.bytes source.old) payload (T.size target.old)) }
     ensures faultless { S.tells → OnOk result

@@ -7,7 +7,7 @@ use luks_reading::CheckFault;
 use std::error::Error;
 use std::fmt;
 
-/// Why a backup isn't restored: the first in this order, but for want of memory and a device's
+/// Why a backup isn't restored: the first in this order, except for a failed allocation and a device's
 /// failure.
 ///
 /// All but a device's failure leave every byte of the target as it was. None changes the backup.

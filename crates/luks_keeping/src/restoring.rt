@@ -56,7 +56,7 @@ pub fn restore<B: Device, T: Device>(
     ensures size { T.size target.new ≡ T.size target.old }
     ensures settled { T.tells → OnOk result (IsSettled T.unsettled target.new) }
 
-    // The first fault that stands, or want of memory, and then nothing of the target changed.
+    // The first fault that stands, or a failed allocation, and then nothing of the target changed.
     ensures fault { B.tells → T.tells → IfErr result
         (IsAnsweredRestore (B.bytes backup.old) (T.bytes target.old) payload over) }
     ensures faultless { B.tells → T.tells → OnOk result
@@ -91,7 +91,7 @@ pub fn restore<B: Device, T: Device>(
     restore_header(alloc, header, backup, target, payload, over)
 }
 
-/// The same of a backup whose header was read: it is the one that `accepted_header` answers for it, with the payload
+/// Restores a backup whose header was read: it is the one that `accepted_header` answers for it, with the payload
 /// elsewhere. The backup's metadata isn't read once more, and is given up before the target's is read.
 pub fn restore_header<B: Device, T: Device>(
     alloc: Global,
@@ -116,7 +116,7 @@ pub fn restore_header<B: Device, T: Device>(
     ensures size { T.size target.new ≡ T.size target.old }
     ensures settled { T.tells → OnOk result (IsSettled T.unsettled target.new) }
 
-    // The first fault that stands, or want of memory, and then nothing of the target changed.
+    // The first fault that stands, or a failed allocation, and then nothing of the target changed.
     ensures fault { B.tells → T.tells → IfErr result
         (IsAnsweredRestore (B.bytes backup.old) (T.bytes target.old) payload over) }
     ensures faultless { B.tells → T.tells → OnOk result

@@ -105,7 +105,7 @@ fn is_to_clear<T: Device>(target: &mut T, which: Which, at: u64) -> Result<bool,
     }
 }
 
-/// Whether the magic of a second copy stands there.
+/// Whether the magic of a second copy is there.
 fn has_magic<T: Device>(target: &mut T, at: u64) -> Result<bool, DeviceFault>
     requires within { at + 512 ≤ T.size target.old }
     requires room { T.failed target.old + 1 < 2 ^ 64 }
@@ -125,7 +125,7 @@ fn is_listed(place: u64) -> bool
     PLACES.contains(&place)
 }
 
-/// Writes zeros over the first `size` bytes but for the first sectors at 0 and of these places, and
+/// Writes zeros over the first `size` bytes except for the first sectors at 0 and of these places, and
 /// flushes.
 pub(crate) fn wipe_between<T: Device>(target: &mut T, size: u64) -> Result<(), DeviceFault>
     requires within { size ≤ T.size target.old }

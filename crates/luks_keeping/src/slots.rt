@@ -16,7 +16,7 @@ use luks2_header::{Copies, Luks1, SlotState};
 /// The bytes of a LUKS1 header.
 pub(crate) const LUKS1_HEADER: u64 = 592;
 
-/// Where the header and its key areas stand.
+/// The place of the header and its key areas.
 pub(crate) fn places_of(header: &Header) -> Places
     requires fields { HasFields header.now }
     requires accepted { IsAcceptedHeader header.now }

@@ -1,4 +1,4 @@
-//! Writing a header and its key areas over what stands on a device.
+//! Writing a header and its key areas over what is on a device.
 ghost use Rattle.std.specs.Prelude.{◌≡◌, ◌+◌, ◌^◌, ◌<◌, ◌≤◌, OnOk, min, replicate};
 ghost use Rattle.luks_area.specs.Device.{CountsFailure, IsSettled, IsUnchanged, is_failure};
 ghost use Rattle.luks_area.specs.Ranges.{part, IsOfEither, SameBut};

@@ -1,4 +1,4 @@
--- What stands in a file that bytes are kept in.
+-- What is in a file that bytes are kept in.
 use Rattle.std.proofs.Common.{◌≡◌, ◌∙◌, ◌+◌, ℕ, arith, List, length, ◌++◌, drop, Result, Ok, Err, OnOk, ap}
 use Rattle.std.proofs.Math.Seq.{drop-length}
 use Rattle.std.proofs.lemmas.List.{append-nil}

@@ -1,4 +1,4 @@
--- Where `check` accepts a volume, or refuses it otherwise than by its metadata, nothing is under way.
+-- If `check` accepts a volume, or refuses it otherwise than by its metadata, nothing is under way.
 use Rattle.std.proofs.Common.{◌≡◌, ℕ, List, refl, subst, arith}
 use Rattle.luks1_header.specs.declared.fault.HeadFault.{HeadFault}
 use Rattle.luks2_header.proofs.ChoiceFacts.{choices_agree}

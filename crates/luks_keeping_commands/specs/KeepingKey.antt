@@ -126,7 +126,7 @@ abbrev pub shut_answer : Option ℕ → Answer
 shut_answer (Some n) = Closed n
 shut_answer None = NoneOpens
 
--- no file is made but for a key
+-- no file is made except for a key
 abbrev pub IsKeyFileAnswer : {D : Type 0} → Device D → Option ℕ → Result (Option (List ℕ)) KeyRefusal → Result D InputFault → Result D InputFault → Answer → Type 0
 IsKeyFileAnswer device slot (Ok (Some key)) old new a = IsKept device key new a
 IsKeyFileAnswer device slot (Ok None) old new a = (new ≡ old) × (a ≡ shut_answer slot)

@@ -12,7 +12,7 @@ use Rattle.luks_keeping_commands.specs.KeptFile.{IsKept}
 abbrev pub line_of : List ℕ → List ℕ
 line_of text = text ++ (10 ∷ [])
 
--- by what is shown of the token: no file is made but for its text, and none where memory for the line is refused
+-- by what is shown of the token: no file is made except for its text, and none where memory for the line is refused
 abbrev pub IsTokenFileAnswer : {D : Type 0} → Device D → Answer → Result D InputFault → Result D InputFault → Answer → Type 0
 IsTokenFileAnswer device (Json text) old new a = IsKept device (line_of (string_bytes text)) new a ⊎ ((new ≡ old) × (a ≡ NoMemory))
 IsTokenFileAnswer device shown old new a = (new ≡ old) × (a ≡ shown)

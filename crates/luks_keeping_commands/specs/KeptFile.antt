@@ -1,4 +1,4 @@
--- What stands in the file that a key or a token is kept in, and what is answered of it.
+-- What is in the file that a key or a token is kept in, and what is answered of it.
 use Rattle.std.specs.Prelude.{◌≡◌, ◌≢◌, ◌⊎◌, ℕ, List, length, None, Result, Ok, Err}
 use Rattle.luks_area.specs.Device.{IsSettled}
 use Rattle.luks_area.specs.declared.device.Device.{Ghosts as Device}

@@ -128,7 +128,7 @@ IsReencryptingAnswer DeviceFault = ⊤
 IsReencryptingAnswer NoMemory = ⊤
 IsReencryptingAnswer a = ⊥
 
--- and where another use stands there
+-- and where another use is there
 abbrev pub IsUsedAnswer : List ℕ → Answer → Type 0
 IsUsedAnswer t (Refused (refusal.OtherUse found)) = HasUse t found
 IsUsedAnswer t (Refused refusal.Reencrypting) = IsReencrypting t
@@ -137,7 +137,7 @@ IsUsedAnswer t NoMemory = ⊤
 IsUsedAnswer t a = ⊥
 
 -- No byte of the volume `t`, that was left as `w`, changes in the midst of a reencryption, though `--other` or `--over` is given;
--- and none where another use stands there and no header of the volume of an accepted backup `b` counts.
+-- and none where another use is there and no header of the volume of an accepted backup `b` counts.
 pub record HoldsVolume (restoring : Restoring) (b t w : List ℕ) (a : Answer) : Type 0 where
   pub reencryption : restoring.over_reencryption ≡ false → IsReencrypting t → (w ≡ t) × IsReencryptingAnswer a
   pub use_of : restoring.over ≡ false → WellFormed b Elsewhere → (CountsSameVolume b t → ⊥) → (found : Use) → HasUse t found → (w ≡ t) × IsUsedAnswer t a

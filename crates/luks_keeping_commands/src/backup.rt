@@ -26,7 +26,7 @@ use luks_wide_reading::{UnderwayCopy, WideHeader, WideReadFault, read_wide_heade
 use std::alloc::Global;
 use std::io::{Read, Write};
 
-/// Writes a backup of the header of the volume of this name to the target. Where the target isn't there, since
+/// Writes a backup of the header of the volume of this name to the target. If the target isn't there, since
 /// it isn't made for a volume that isn't accepted, that is what is answered.
 ///
 /// It isn't inlined, so that it takes no stack where another command runs.
@@ -253,7 +253,7 @@ fn narrow_answer(fault: CheckFault) -> Answer
     Answer::from(BackupFault::NotAccepted(fault))
 }
 
-/// The same of a volume whose key areas can't be read everywhere: what can be read.
+/// Backs up a volume whose key areas can't be read everywhere: what can be read.
 fn back_up_readable<D: Device, E: Write>(
     alloc: Global,
     volume: &mut D,
@@ -325,7 +325,7 @@ fn without_file<D: Device, E: Write>(
     }
 }
 
-/// The same of a volume that `check` refuses by this fault.
+/// The answer for a volume that `check` refuses by this fault.
 fn without_file_refused<D: Device, E: Write>(
     alloc: Global,
     volume: &mut D,
@@ -354,7 +354,7 @@ fn without_file_refused<D: Device, E: Write>(
     }
 }
 
-/// The same of a volume whose metadata `check` refuses by this fault.
+/// The answer for a volume whose metadata `check` refuses by this fault.
 fn without_file_wide<D: Device, E: Write>(
     alloc: Global,
     volume: &mut D,
@@ -386,7 +386,7 @@ fn without_file_wide<D: Device, E: Write>(
     }
 }
 
-/// What is answered where this fault ended the backup. Where a device failed, it is that of the file of
+/// What is answered where this fault ended the backup. If a device failed, it is that of the file of
 /// this name.
 fn not_kept<E: Write>(fault: BackupFault, file: &str, failed: &str, err: &mut E) -> Answer
     ensures { result ≡ backup_fault_answer fault }

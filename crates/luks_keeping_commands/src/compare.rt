@@ -174,7 +174,7 @@ fn compare_copy<D: Device, E: Write>(
     }
 }
 
-/// The same of a volume whose header is accepted by either reading.
+/// Compares with a volume whose header is accepted by either reading.
 fn compare_states<D: Device, E: Write>(
     backup: &mut D,
     copy: &UnderwayCopy,

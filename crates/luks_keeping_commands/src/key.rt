@@ -120,7 +120,7 @@ fn open_key<D: Device, E: Write>(
     }
 }
 
-/// The same of a volume in whose metadata nothing is under way.
+/// Opens a volume in whose metadata nothing is under way.
 fn open_narrow<D: Device, E: Write>(
     alloc: Global,
     device: &mut D,
@@ -146,7 +146,7 @@ fn open_narrow<D: Device, E: Write>(
     }
 }
 
-/// The same of a volume in whose metadata something is under way.
+/// Opens a volume in whose metadata something is under way.
 fn open_underway<D: Device>(
     alloc: Global,
     device: &mut D,
@@ -196,7 +196,7 @@ fn opened_by(opened: Result<Option<Key>, OpenFault>) -> Result<Option<Key>, KeyR
     }
 }
 
-/// The same of a keyslot that is named where something is under way.
+/// What opening a named keyslot came to if something is under way.
 fn wide_opened_by(opened: Result<Option<Key>, WideOpenFault>) -> Result<Option<Key>, KeyRefusal>
     ensures { result ≡ wide_opened_by opened }
 {

@@ -11,7 +11,7 @@ use luks_reading::{CheckFault, Data, Device};
 use std::alloc::Global;
 use std::io::{self, Write};
 
-/// Says how many keyslots the backup has, and where an accepted header stands on the volume too, how
+/// Says how many keyslots the backup has, and where an accepted header is on the volume too, how
 /// many of that the backup lacks, how many it alone has, and which these are, by their salts.
 pub(crate) fn note_keyslots<E: Write>(
     backup: &Outline,

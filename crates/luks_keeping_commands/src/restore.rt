@@ -76,7 +76,7 @@ pub fn run<D: Device, R: Read, N: Read, E: Write>(
     }
 }
 
-/// Puts the backup back, unless what stands on the volume isn't to be written over.
+/// Puts the backup back, unless what is on the volume isn't to be written over.
 fn put_unless<D: Device, E: Write>(
     alloc: Global,
     backup: &mut D,
@@ -271,7 +271,7 @@ fn over_underway(restoring: &Restoring<'_>) -> OverUnderway
     }
 }
 
-/// What is answered where this fault ended it. Where a device failed, it is that of the file of this name.
+/// What is answered where this fault ended it. If a device failed, it is that of the file of this name.
 fn underway_not_restored<E: Write>(
     fault: UnderwayRestoreFault,
     file: &str,
@@ -344,7 +344,7 @@ fn over_of(restoring: &Restoring<'_>) -> Over
     }
 }
 
-/// What is answered where this fault ended it. Where a device failed, it is that of the file of this
+/// What is answered where this fault ended it. If a device failed, it is that of the file of this
 /// name.
 fn not_restored<E: Write>(fault: RestoreFault, file: &str, failed: &str, err: &mut E) -> Answer
     ensures { result ≡ restore_fault_answer fault }

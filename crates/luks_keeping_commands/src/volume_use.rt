@@ -1,4 +1,4 @@
-//! What stands on a volume that a backup would be put onto.
+//! What is on a volume that a backup would be put onto.
 ghost use Rattle.std.specs.Prelude.{◌≡◌, ◌+◌, ◌<◌, ◌^◌, IfErr, IfOk, OnOk, false};
 ghost use Rattle.luks_area.specs.Device.{CountsFailure, IsUnchanged};
 ghost use Rattle.luks_writing.specs.TwoDevices.{CountsEither};
@@ -129,7 +129,7 @@ fn bar_of(fault: RestoreFault) -> Bar
     }
 }
 
-/// The same of a backup that was made while something was under way: refuses where the disk has another use and no header
+/// Judges a backup that was made while something was under way: refuses if the disk has another use and no header
 /// with the backup's uuid counts there, unless it may be written over.
 pub(crate) fn judge_use_underway<D: Device>(
     backup: &mut D,

@@ -38,7 +38,7 @@ pub part-part : (k : ℕ) (xs : List ℕ) (n d : ℕ) → d + n ≤ k → part n
 part-part k xs n d within =
     sym (drop-take d n (take k xs)) ∙ ap (drop d) (take-take (d + n) k xs within) ∙ drop-take d n xs
 
--- some blocks more are turned, where they stand in the row
+-- some blocks more are turned, where they are in the row
 pub turned_more : (hash : List ℕ → List ℕ) (size : ℕ) (key : List ℕ) (c n g : ℕ) (old now group : List ℕ) (at k : ℕ)
     → at ≡ n * size → k ≡ g * size → length group ≡ length (take k (drop at now)) → at + k ≤ length now
     → ((d : ℕ) → d < g → block_at size group d ≡ turns_xored (hmac hash key) (block_at size (take k (drop at now)) d) (c - 1))

@@ -99,7 +99,7 @@ itself_decided e = some_decided Removed (removed_by e) (λ r. r.by_ ≡ Some r.s
 slot_faults : List SlotFault
 slot_faults = slot.Memory ∷ slot.Argon2 ∷ slot.Cipher ∷ slot.Hash ∷ slot.KeySize ∷ slot.Device ∷ []
 
--- each of them stands there
+-- each of them is there
 at_its_row : (f : SlotFault) → get_or slot_faults (slot_row f) slot.Memory ≡ f
 unfolding slot_faults
 at_its_row slot.Argon2 = refl

@@ -24,7 +24,7 @@ some_there (Some x) h = (x, refl)
 
 -- ---- members
 
--- a name that stands before all isn't that of one of them
+-- a name that comes before all isn't that of one of them
 found_after : (l k : List ℕ) (ms : Members) (d : Data) → AllAfter l ms → get_member k ms ≡ Some d → slice_cmp nat_cmp l k ≡ Less
 found_after l k no_members d all is = absurd (cc)
 found_after l k (member q e ms) d all is = by_order (slice_cmp nat_cmp k q) refl (λ found. found_after l k ms d all.1 found) is

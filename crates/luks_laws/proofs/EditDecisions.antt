@@ -31,7 +31,7 @@ abbrev is_token : EditFault → Bool
 is_token (edit.BadToken f) = true
 is_token f = false
 
--- what stands at a place of a list is of the list
+-- what is at a place of a list is of the list
 among_at : {F : Type 0} (other : F) (fs : List F) (k : ℕ) → k < length fs → Among (get_or fs k other) fs
 among_at other [] k low = absurd (omega (arith, low))
 among_at other (f ∷ fs) zero low = inl refl

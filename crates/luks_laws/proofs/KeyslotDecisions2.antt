@@ -38,7 +38,7 @@ first_step text (head.Iterations (of.Slot n)) bad = absurd bad
 first_step text f bad = refl
 
 module _ (allowed : Allowed) (b json : List ℕ) (total n : ℕ) where
-  -- a fault of the uuid stands before all refusals but the uuid's
+  -- a fault of the uuid comes before all refusals but the uuid's
   before_all : (f : HeadFault) → IsLeast {F = HeadFault} head_key (IsUuidFault (uuid_field b)) f
       → (g : OpenFault) → IsLuks2RefusalWithin allowed b json total n g → NotAfter (head_step f ∷ head_key f) (open_key g)
   before_all f least (opening.Head g) bad =
@@ -47,7 +47,7 @@ module _ (allowed : Allowed) (b json : List ℕ) (total n : ℕ) where
       (omega (arith, one, other), λ _. least.1 g bad)
   before_all f least g bad = let one = first_step (uuid_field b) f least.0 in (omega (arith, one), λ same. absurd (omega (arith, one, same)))
 
-  -- where the uuid has no fault, one of the metadata stands before all refusals but the metadata's
+  -- where the uuid has no fault, one of the metadata comes before all refusals but the metadata's
   before_others : ((f : HeadFault) → IsUuidFault (uuid_field b) f → ⊥) → (f : MetaFault) → IsLeast {F = MetaFault} meta_key (IsMetaFault json) f
       → (g : OpenFault) → IsLuks2RefusalWithin allowed b json total n g → NotAfter (2 ∷ meta_key f) (open_key g)
   before_others none f least (opening.Head g) bad = absurd (none g bad)

@@ -1,4 +1,4 @@
--- What refuses an edit by the metadata of a LUKS2 volume, but for its text's length: each row stands or doesn't.
+-- What refuses an edit by the metadata of a LUKS2 volume, except for its text's length: each row stands or doesn't.
 use Rattle.std.proofs.Common.{◌≡◌, ◌⊎◌, ◌<◌, true, ℕ, ◌+◌, ◌-◌, ◌*◌, List, length, Option, Some, None, refl, sym, ap, subst, ◌∙◌, inl, inr}
 use Rattle.std.specs.Prelude.{MatchOption}
 use Rattle.std.specs.Borrow.{Bor}

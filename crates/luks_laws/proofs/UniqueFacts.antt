@@ -1,4 +1,4 @@
--- An object that was read has each name once: its members stand in the order of their names.
+-- An object that was read has each name once: its members are in the order of their names.
 use Rattle.std.proofs.Common.{◌≡◌, ℕ, List, Option, Some, None, option_map, option_and_then, Ordering, Less, Equal, Greater, nat_cmp, refl, ap, subst, ◌∙◌}
 use Rattle.std.proofs.lemmas.Cmp.{nat_list_cmp_total}
 use Rattle.std.specs.Cmp.Lexicographic.{slice_cmp}
@@ -12,12 +12,12 @@ use Rattle.luks_making.specs.Naming.{IsUnique}
 
 -- ---- order
 
--- the name stands before those of the members
+-- the name comes before those of the members
 abbrev pub AllAfter : List ℕ → Members → Type 0
 AllAfter k no_members = Unit {0}
 AllAfter k (member l e ms) = (slice_cmp nat_cmp k l ≡ Less) × AllAfter k ms
 
--- the members of each object stand in the order of their names
+-- the members of each object are in the order of their names
 abbrev mutual
   pub IsTidy : Data → Type 0
   IsTidy null = Unit {0}

@@ -36,7 +36,7 @@ pub fn first_refusal_or_unrefused()
 }
 
 /// What opens without memory allows none to an edit, and what is allowed nothing allows nothing.
-/// Where no memory is allowed, a keyslot answers the edit exactly as it does without Argon2, and takes
+/// If no memory is allowed, a keyslot answers the edit exactly as it does without Argon2, and takes
 /// none; where nothing is, the plan of a keyslot of either version is refused as it is without older
 /// ciphers and hashes too. A keyslot of LUKS1 answers alike whatever memory is allowed.
 pub fn nothing_allowed_edits_as_before()

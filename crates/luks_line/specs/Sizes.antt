@@ -6,7 +6,7 @@ use Rattle.std.specs.Str.Parse.{IsNumeral, digits_value, without_leading_plus}
 abbrev pub Lacks : List ℕ → List ℕ → Type 0
 Lacks text letter = (number : List ℕ) → text ≢ number ++ letter
 
--- no letter stands behind the number
+-- no letter follows the number
 abbrev pub HasNoLetter : List ℕ → Type 0
 HasNoLetter text = Lacks text (codes "K") × Lacks text (codes "M") × Lacks text (codes "G") × Lacks text (codes "T")
 

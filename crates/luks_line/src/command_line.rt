@@ -76,7 +76,7 @@ fn told(alloc: Global, words: &[&str], fault: Error) -> Result<Error, AllocError
     }
 }
 
-/// The fault as `clap` tells it. Where no command has the name that the words begin with, it is told as if
+/// The fault as `clap` tells it. If no command has the name that the words begin with, it is told as if
 /// there were neither `format` nor `restore`: what overwrites a volume without a question is suggested for
 /// no word that is only like its own.
 fn without_overwriting(alloc: Global, words: &[&str], fault: Error) -> Error {

@@ -1,4 +1,4 @@
-//! The commands one by one, and the texts of their helps. Those stand in no table: what a table costs the
+//! The commands one by one, and the texts of their helps. Those are in no table: what a table costs the
 //! prover grows with all the text in it.
 
 use luks_helps::{helps, rescue_helps};

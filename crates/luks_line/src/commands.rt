@@ -11,7 +11,7 @@ pub(crate) struct Described {
     pub(crate) name: &'static str,
     /// The command that has this name.
     pub(crate) command: CommandName,
-    /// Whether it writes over what stands there without a question, so that it is suggested for no
+    /// Whether it writes over what is there without a question, so that it is suggested for no
     /// other word.
     pub(crate) overwrites: bool,
     pub(crate) operands: &'static [Operand],

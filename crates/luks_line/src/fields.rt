@@ -25,7 +25,7 @@ pub(crate) fn wrong_field(given: &ArgMatches<'_>) -> Option<&'static str> {
     wrong_search(given)
 }
 
-/// That nothing of a LUKS1 header is sought longer but by a passphrase, and that memory is for that alone.
+/// That nothing of a LUKS1 header is sought longer except by a passphrase, and that memory is for that alone.
 fn wrong_search(given: &ArgMatches<'_>) -> Option<&'static str> {
     if searches(given) {
         return wrong_segment(given);
@@ -114,13 +114,13 @@ pub(crate) fn sector_size_of(given: &ArgMatches<'_>) -> Option<u32> {
     }
 }
 
-/// What stands before the first hyphen.
+/// What precedes the first hyphen.
 fn name_in<'a>(cipher: Option<&'a str>) -> Option<&'a str> {
     let (name, _) = cipher?.split_once('-')?;
     Some(name)
 }
 
-/// What stands behind it.
+/// What follows it.
 fn mode_in<'a>(cipher: Option<&'a str>) -> Option<&'a str> {
     let (_, mode) = cipher?.split_once('-')?;
     Some(mode)

@@ -28,7 +28,7 @@ pub(crate) fn wrong_change(given: &ArgMatches<'_>) -> Option<&'static str> {
     None
 }
 
-/// The same of a removal, and that the one isn't named which another's passphrase removes.
+/// What is wrong with a removal, and that the one isn't named which another's passphrase removes.
 pub(crate) fn wrong_removal(given: &ArgMatches<'_>) -> Option<&'static str> {
     if lacks_slot(given) && (given.get_str("key").is_some() || is_given(given, "by")) {
         return Some("the argument '--slot <N>' is needed with '--key <FILE>' or '--by <N>'");

@@ -94,13 +94,13 @@ static OPTIONS: [OptionRow; 67] = [
     OptionRow {
         name: "detached",
         needed: false,
-        help: "The data is on another device, no segment judged",
+        help: "The data is on another device",
         takes: Takes::Nothing,
     },
     OptionRow {
         name: "detached",
         needed: false,
-        help: "SOURCE is a detached header, no segment judged",
+        help: "SOURCE is a detached header",
         takes: Takes::Nothing,
     },
     OptionRow {
@@ -124,7 +124,7 @@ static OPTIONS: [OptionRow; 67] = [
     OptionRow {
         name: "json",
         needed: false,
-        help: "One JSON object in place of the lines, for scripts",
+        help: "One JSON object instead, for scripts",
         takes: Takes::Form,
     },
     OptionRow {
@@ -142,13 +142,13 @@ static OPTIONS: [OptionRow; 67] = [
     OptionRow {
         name: "random",
         needed: false,
-        help: "The file of the random bytes, as /dev/urandom",
+        help: "A file of random bytes, such as /dev/urandom",
         takes: Takes::File,
     },
     OptionRow {
         name: "random",
         needed: true,
-        help: "The file of the random bytes, as /dev/urandom",
+        help: "A file of random bytes, such as /dev/urandom",
         takes: Takes::File,
     },
     OptionRow {
@@ -208,7 +208,7 @@ static OPTIONS: [OptionRow; 67] = [
     OptionRow {
         name: "thorough",
         needed: false,
-        help: "Seek longer; by --passphrase seek wrong bits",
+        help: "Search longer; with --passphrase for wrong bits",
         takes: Takes::Nothing,
     },
     OptionRow {
@@ -232,7 +232,7 @@ static OPTIONS: [OptionRow; 67] = [
     OptionRow {
         name: "json",
         needed: false,
-        help: "One JSON object in place of the line",
+        help: "One JSON object instead of the line",
         takes: Takes::Nothing,
     },
     OptionRow {
@@ -256,7 +256,7 @@ static OPTIONS: [OptionRow; 67] = [
     OptionRow {
         name: "offset",
         needed: false,
-        help: "Where in its file it begins",
+        help: "The byte of its file where it begins",
         takes: Takes::Offset,
     },
     OptionRow {
@@ -280,7 +280,7 @@ static OPTIONS: [OptionRow; 67] = [
     OptionRow {
         name: "rescue",
         needed: false,
-        help: "Go on where a key area can't be read",
+        help: "Go on if a key area can't be read",
         takes: Takes::Nothing,
     },
     OptionRow {
@@ -328,13 +328,13 @@ static OPTIONS: [OptionRow; 67] = [
     OptionRow {
         name: "cipher",
         needed: false,
-        help: "LUKS1: the cipher, as aes-xts-plain64",
+        help: "LUKS1: the cipher, such as aes-xts-plain64",
         takes: Takes::Cipher,
     },
     OptionRow {
         name: "hash",
         needed: false,
-        help: "LUKS1: the hash, as sha256",
+        help: "LUKS1: the hash, such as sha256",
         takes: Takes::Name,
     },
     OptionRow {
@@ -352,7 +352,7 @@ static OPTIONS: [OptionRow; 67] = [
     OptionRow {
         name: "passphrase",
         needed: false,
-        help: "Try what isn't given of LUKS1 till this opens it",
+        help: "Try fields of LUKS1 until this opens it",
         takes: Takes::OnePassphrase,
     },
     OptionRow {
@@ -466,7 +466,7 @@ static OPTIONS: [OptionRow; 67] = [
     OptionRow {
         name: "key-bytes",
         needed: false,
-        help: "How long the volume key is; else 64, of cbc 32",
+        help: "How long the volume key is; else 64, for cbc 32",
         takes: Takes::KeyBytes,
     },
     OptionRow {

@@ -55,7 +55,7 @@ fn option_in(words: &[&str]) -> Option<OtherWord> {
         .find_map(|word| row(name_in(word)))
 }
 
-/// What stands before the equals sign.
+/// What precedes the equals sign.
 fn name_in(word: &str) -> &str {
     match word.split_once('=') {
         Some((name, _)) => name,

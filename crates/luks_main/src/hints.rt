@@ -118,7 +118,7 @@ fn tell_next(volume: &str, ended: &Ended<'_>, notes: &mut Vec<u8>) {
     }
 }
 
-/// Notes what is to be known of a volume that was opened: what stands in the place of its header, and all else. Gives
+/// Notes what is to be known of a volume that was opened: what is in the place of its header, and all else. Gives
 /// what the command has hashed to find what checksums vouch for, with its notes: together at most 64 MiB.
 fn tell_opened<D: Device>(
     alloc: Global,
@@ -202,7 +202,7 @@ fn tell_more<D: Device>(
     }
 }
 
-/// The same of a command that is done.
+/// Notes for a command that is done.
 fn tell_done<D: Device>(
     alloc: Global,
     line: &Line<'_>,
@@ -227,7 +227,7 @@ fn tell_done<D: Device>(
     }
 }
 
-/// The same of one that is refused, or by which none opens.
+/// Notes for a command that was refused, or if no keyslot opens.
 fn tell_refused<D: Device>(
     alloc: Global,
     line: &Line<'_>,
@@ -317,7 +317,7 @@ fn tell_rebuilt<D: Device>(
     tell_target(alloc, target, rebuilding.target, notes);
 }
 
-/// Notes of which metadata of the volume the LUKS2 header was made that stands on the target.
+/// Notes of which metadata of the volume the LUKS2 header was made that is on the target.
 fn tell_taken<D: Device>(
     alloc: Global,
     rebuilding: &Rebuilding<'_>,
@@ -364,8 +364,8 @@ fn tell_target<D: Device>(
     }
 }
 
-/// Notes what stands in the place of a header that is so refused, or by which command it is read all the same. Of
-/// LUKS1 the bytes of the header alone are looked at, since what stands behind them may be older than it.
+/// Notes what is in the place of a header that is so refused, or by which command it is read all the same. Of
+/// LUKS1 the bytes of the header alone are looked at, since what follows them may be older than it.
 fn tell_instead<D: Device>(
     alloc: Global,
     device: &mut D,
@@ -387,7 +387,7 @@ fn tell_instead<D: Device>(
 /// The bytes of a LUKS1 header.
 const HEADER: u64 = 592;
 
-/// Notes that a volume is of LUKS1 and being reencrypted, or what stands there by a signature among its first
+/// Notes that a volume is of LUKS1 and being reencrypted, or what is there by a signature among its first
 /// bytes, of so many at most.
 fn tell_standing<D: Device>(device: &mut D, file: &str, most: u64, notes: &mut Vec<u8>)
     requires { D.failed device.old + 1 < 2 ^ 64 }
@@ -404,7 +404,7 @@ fn tell_standing<D: Device>(device: &mut D, file: &str, most: u64, notes: &mut V
     }
 }
 
-/// Notes what stands there by its signature.
+/// Notes what is there by its signature.
 fn tell_signature<D: Device>(device: &mut D, most: u64, file: &str, notes: &mut Vec<u8>)
     requires { D.failed device.old + 1 < 2 ^ 64 }
 {
@@ -438,7 +438,7 @@ fn tell_wanted<D: Device>(line: &Line<'_>, device: &mut D, notes: &mut Vec<u8>)
     }
 }
 
-/// Whether a LUKS1 header stands there, by its magic.
+/// Whether a LUKS1 header is there, by its magic.
 fn is_luks1<D: Device>(device: &mut D) -> bool
     requires { D.failed device.old + 1 < 2 ^ 64 }
 {
@@ -484,7 +484,7 @@ fn tell_leftovers<D: Device>(
     );
 }
 
-/// The same, or why it isn't looked for. Where no header counts it notes nothing.
+/// Notes this, or why it isn't looked for. If no header counts, it notes nothing.
 fn note_front<D: Device>(
     alloc: Global,
     device: &mut D,

@@ -18,7 +18,7 @@ pub(crate) fn tell_new_passphrase<R: AllocGlobal + Eprint>(
     tell(rt, notes.as_slice());
 }
 
-/// The same for standard error: of `add` and `change` of the new passphrase, of `format` of the passphrase.
+/// Notes for standard error on the new passphrase of `add` and `change`, or the passphrase of `format`.
 fn note_new<E: Write>(
     command: &Command<'_>,
     passphrases: &Passphrases,
@@ -31,7 +31,7 @@ fn note_new<E: Write>(
     }
 }
 
-/// The same of what was read of a passphrase's file.
+/// Notes on what was read from a passphrase's file.
 fn note_read<E: Write>(
     read: &Result<Secret, InputFault>,
     line_option: &str,

@@ -48,7 +48,7 @@ impl Outcome {
         matches!(self.answer, Answer::Done(_) | Answer::Rescued(_))
     }
 
-    /// Prints the answer's lines; gives the exit status. Where memory for them is refused, that is the
+    /// Prints the answer's lines; gives the exit status. If memory for them is refused, that is the
     /// answer.
     pub(crate) fn print_lines<P: Printer>(&self, alloc: Global, out: &mut P) -> u8
         requires { P.failures out.old + 1 < 2 ^ 64 }

@@ -162,7 +162,7 @@ fn run_line<R: AllocGlobal + Clock + Files<File = File> + Input + Print + Eprint
     }
 }
 
-/// The same, with costs that take that many milliseconds. It isn't inlined, so that what Argon2 takes of the
+/// Runs it with costs that take that many milliseconds. It isn't inlined, so that what Argon2 takes of the
 /// stack isn't taken from the command.
 #[inline(never)]
 fn run_timed<R: AllocGlobal + Clock + Files<File = File> + Input + Print + Eprint>(

@@ -22,7 +22,7 @@ pub(crate) fn tell_readable<D: Device>(
     }
 }
 
-/// The same of the volume with this header.
+/// Notes on the volume with this header.
 fn note_header(header: &WideHeader, file: &str, notes: &mut Vec<u8>) {
     match header {
         WideHeader::Underway(copy) => note_readable(&copy.meta, file, notes),

@@ -2,7 +2,7 @@
 use std::rt::Clock;
 use std::time::Duration;
 
-/// How long the line stands at least, in milliseconds.
+/// How long the line is at least, in milliseconds.
 const PAUSE: u128 = 500;
 
 /// Where a search's line stands, and since when.
@@ -13,7 +13,7 @@ pub(crate) struct WrittenOver<'a, R> {
     begun: Option<Duration>,
     /// When the line was written last, as milliseconds of the search.
     written: u128,
-    /// Whether the line stands there.
+    /// Whether the line is there.
     stands: bool,
 }
 
@@ -44,7 +44,7 @@ impl<'a, R: Clock + Eprint> WrittenOver<'a, R> {
         Some(now.saturating_sub(self.begun?).as_millis())
     }
 
-    /// The same, where its line is to be written now.
+    /// The time since it began, if its line is to be written now.
     pub(crate) fn due(&self) -> Option<u128> {
         let elapsed = self.elapsed()?;
         if elapsed.saturating_sub(self.written) < PAUSE {

@@ -47,7 +47,7 @@ slot_fine s (by_argon2id costs) = record { whole = refl; nests = omega arith }
 
 -- ---- the digest with the name
 
--- another name stands in its array exactly where it did
+-- another name is in its array exactly where it did
 lists_others : (t s : List ℕ) (d : Data) → bytes_eq t s ≡ false → names s (get (codes "keyslots") (with_name t d)) ≡ names s (get (codes "keyslots") d)
 lists_others t s d off = rw (get_changed (codes "keyslots") (in_array (add_text t)) d) (others_added t s (get (codes "keyslots") d) off)
 

@@ -58,7 +58,7 @@ priority_read Ignore = refl
 priority_read Normal = refl
 priority_read Prefer = refl
 
--- the members that may be new, by the object that they stand in
+-- the members that may be new, by the object that they are in
 abbrev edited_in : Outer → List (List ℕ)
 edited_in outer.Top = codes "priority" ∷ []
 edited_in outer.Af = []
@@ -127,7 +127,7 @@ module _ (n : ℕ) (q : Priority) (j : Data) where
   other_slot : (m : ℕ) → Some n ≢ Some m → object_at prior Keyslots m ≡ object_at j Keyslots m
   other_slot m other = slot_beside n own j m (λ same. other (ap Some (sym same)))
 
-  -- each keyslot is there as it was, but for its priority
+  -- each keyslot is there as it was, except for its priority
   slots_kept : KeepsObjects (codes "priority" ∷ []) Keyslots j prior
   slots_kept = record {
     there = λ m was is. elim (cases_eq m n) [
@@ -182,7 +182,7 @@ module _ (n : ℕ) (q : Priority) (j : Data) where
     prior_says : (d : Data) → HasObject prior Keyslots n d → get (codes "priority") d ≡ said (priority_number q)
     prior_says d h = let w = slot_was d h in subst (λ (x : Data). get (codes "priority") x ≡ said (priority_number q)) (sym w.2) (says q w.0 (c.objects Keyslots n w.0 w.1))
 
--- the value with the priority says it, and is as it was but for that
+-- the value with the priority says it, and is as it was except for that
 pub priority_set : (len n : ℕ) (q : Priority) (j : Data) → IsHeld len j → SetsPriority n q j (with_priority n q j)
 priority_set len n q j h = record { says = prior_says n q j len h.content; rest = prior_rest n q j }
 
@@ -245,7 +245,7 @@ module _ (n : ℕ) (t j : Data) where
   added_here h =
       ap (option_and_then (get (number_text n))) (tokens_are (in_object (put (number_text n) t)) j) ∙ put_here (number_text n) t (section_at j Tokens) (tested_object all_named (section_at j Tokens) h)
 
--- the value with the token is as it was but for that
+-- the value with the token is as it was except for that
 pub token_added : (len n : ℕ) (t j : Data) → IsHeld len j → AddsToken n t j (with_token n t j)
 token_added len n t j h = record {
   there = added_here n t j (h.content.sections Tokens);
@@ -274,7 +274,7 @@ module _ (n : ℕ) (j : Data) where
   maps_left Tokens h = rw (tokens_are dropped j) (named_map (drop_member (number_text n)) (section_at j Tokens) (each_left Named (number_text n)) h)
   maps_left k h = rw (beside_tokens dropped j (section_name k) refl) h
 
--- the value without the token is as it was but for that
+-- the value without the token is as it was except for that
 pub token_lost : (n : ℕ) (j : Data) → LosesToken n j (without_token n j)
 token_lost n j = record { gone = token_gone n j; rest = tokens_rest (dropped n j) j n (left_beside n j) }
 

@@ -51,7 +51,7 @@ placed f = string (decimal f.offset)
 abbrev sized : NewMembers → Data
 sized f = string (decimal f.size)
 
--- the members that are new, by the object that they stand in
+-- the members that are new, by the object that they are in
 abbrev edited : Outer → List (List ℕ)
 edited outer.Top = codes "area" ∷ codes "kdf" ∷ []
 edited outer.Af = []
@@ -200,7 +200,7 @@ module _ (f : NewMembers) (g : Data → Data) (d : Data) where
         ap text_of (member_same outer.Af (codes "hash") refl refl)
         ∙ text_or (text_of (option_and_then (get (codes "hash")) (get (codes "af") d))) (read.each 1 _ refl (and_from _ _ has_af refl))
 
--- ---- its derivation is as it was, but for the salt and the iterations
+-- ---- its derivation is as it was, except for the salt and the iterations
 
 module _ (f : NewMembers) (d : Data) (read : IsRead keyslot_rows d) where
   abbrev resalted : Data
@@ -283,7 +283,7 @@ module _ (f : NewMembers) (d : Data) (read : IsRead keyslot_rows d) (new : FitsN
   salt_is : IsSalt f.salt
   salt_is = record { are_bytes = new.salt; long = long }
 
-  -- the chosen derivation stands in it
+  -- the chosen derivation is in it
   chosen_is : (c : NewDerivation) → get (codes "kdf") (asked_slot (Some c)) ≡ Some (kdf_value (derivation_by hash c) f.salt)
   chosen_is c = kdf_is f (kdf_or f hash (Some c)) d ∙ put_by (get (codes "kdf") d) (kdf_value (derivation_by hash c) f.salt) (has_kdf f (kdf_or f hash (Some c)) d read)
 

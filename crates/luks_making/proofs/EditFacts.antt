@@ -27,7 +27,7 @@ use Rattle.luks_making.proofs.RowFacts.{NamesRow, array_beside, digest_row, none
 
 -- ---- objects that name keyslots
 
--- an object of the new value: one of the old, as it was but for its array of keyslots, whose texts name
+-- an object of the new value: one of the old, as it was except for its array of keyslots, whose texts name
 -- keyslots that are there, each once
 pub record NamingBack (old new : Data) (k : Section) (i : ℕ) (d : Data) : Type 0 where
   pub was : Data

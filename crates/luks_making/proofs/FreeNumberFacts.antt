@@ -45,7 +45,7 @@ all_found (member k e ms) u h = let p = and_parts _ _ h in (here_by k e ms, p.0,
 
 -- ---- arrays
 
--- a name that no member has stands in no array of names of members
+-- a name that no member has is in no array of names of members
 absent_is : (map : Option Data) (t : List ℕ) (d : Data) → option_and_then (get t) map ≡ None → is_there map d ≡ true → is_text t d ≡ false
 absent_is map t (string s) off h = elim (cases_Bool (bytes_eq s t)) [
   | inl same ↦ absurd (let is : s ≡ t = (bytes_eq-Decides s t).0 same in let there : is_some (option_and_then (get t) map) ≡ true = rw is at h in false≢true (rw off at there))

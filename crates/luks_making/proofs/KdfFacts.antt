@@ -104,7 +104,7 @@ says_derivation (by_argon2id costs) salt d is fits = record {
   cpus = ap (λ v. number_in 1 4294967295 (option_and_then (get (codes "cpus")) v)) is ∙ number_is 1 4294967295 costs.cpus fits.cpus;
 }
 
--- the salt stands in it
+-- the salt is in it
 salt_stands : (k : Deriving) (salt : List ℕ) → option_and_then (get (codes "salt")) (Some (kdf_value k salt)) ≡ Some (string (base64_text salt))
 salt_stands (by_pbkdf2 hash iterations) salt = refl
 salt_stands (by_argon2i costs) salt = refl

@@ -1,4 +1,4 @@
--- Where the areas of a converted volume's keyslots lie.
+-- The places of the areas of a converted volume's keyslots.
 use Rattle.std.proofs.Common.{◌≡◌, ℕ, zero, suc, ◌+◌, ◌-◌, ◌*◌, ◌/◌, ◌%◌, ◌<◌, ◌≤◌, Option, None, Some, nat_lt, refl, subst, ap, inl, inr, arith}
 use Rattle.std.proofs.lemmas.Bool.{cases_Bool, ltb-false}
 use Rattle.luks_area.specs.Sectors.{rounded_to_sectors}

@@ -22,7 +22,7 @@ use Rattle.luks_making.proofs.RowFacts.{array_beside, digest_edited, slots_row, 
 
 -- ---- a digest or token without the name
 
--- another name stands in its array exactly where it did
+-- another name is in its array exactly where it did
 lists_kept : (t s : List ℕ) (d : Data) → bytes_eq s t ≡ false → names s (get (codes "keyslots") (without_name t d)) ≡ names s (get (codes "keyslots") d)
 lists_kept t s d off = rw (get_changed (codes "keyslots") (in_array (drop_text t)) d) (others_dropped t s (get (codes "keyslots") d) off)
 

@@ -1,4 +1,4 @@
--- The keyslots of a source in the array that has them, for the proofs of every crate that stands on
+-- The keyslots of a source in the array that has them, for the proofs of every crate that is on
 -- this one.
 use Rattle.std.proofs.Common.{◌≡◌, ℕ, zero, suc, List, [], ◌∷◌, get_or, Option, None, Some, option_and_then, option_map, refl, ap}
 use Rattle.std.specs.Prelude.{slice_get}

@@ -16,7 +16,7 @@ use Rattle.luks_making.specs.declared.new_keyslot.KeyslotDerivation.{KeyslotDeri
 use Rattle.luks_making.specs.declared.new_keyslot.KeyslotDerivation.TheVariants.{Pbkdf2, Argon2i, Argon2id}
 use Rattle.luks_making.specs.declared.new_keyslot.NewKeyslot.{NewKeyslot}
 
--- how the key of a keyslot's area is derived, but for the salt
+-- how the key of a keyslot's area is derived, except for the salt
 pub data Deriving : Type 0 where
   by_pbkdf2 : List ℕ → ℕ → Deriving
   by_argon2i : Argon2Costs → Deriving
@@ -150,7 +150,7 @@ abbrev pub IsDerivedOr : Data → ℕ → List ℕ → Option NewDerivation → 
 IsDerivedOr d n hash None derivation = IsDerivedLike d n derivation
 IsDerivedOr d n hash (Some c) derivation = derivation ≡ derivation_by hash c
 
--- `s` has the members of the keyslot `d`, but for what is new
+-- `s` has the members of the keyslot `d`, except for what is new
 pub record IsMadeFrom (d : Data) (f : NewMembers) (s : SlotMembers) : Type 0 where
   pub key_size : number_in 1 128 (inside_at outer.Top (codes "key_size") d) ≡ Some s.key_size
   pub stripes : number_in 1 4294967295 (inside_at outer.Af (codes "stripes") d) ≡ Some s.stripes

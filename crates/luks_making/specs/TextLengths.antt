@@ -1,4 +1,4 @@
--- How long the compact text of a value is at most, for the proofs of every crate that stands on this
+-- How long the compact text of a value is at most, for the proofs of every crate that is on this
 -- one.
 use Rattle.std.proofs.Common.{◌≡◌, ℕ, ◌+◌, ◌*◌, ◌%◌, ◌<◌, ◌≤◌, ◌^◌, List, [], ◌∷◌, ◌++◌, length, replicate, Bool, true, false, nat_lt, cond, inl, inr, refl, arith, lit≤, length-append}
 use Rattle.std.specs.Prelude.{decimal, ◌==◌, ◌||◌}
@@ -14,7 +14,7 @@ use Rattle.luks_making.specs.Keyslots.{base64_text}
 
 -- ---- strings
 
--- at most how many bytes stand in a string for a byte: control characters take six, the quotation mark
+-- at most how many bytes are in a string for a byte: control characters take six, the quotation mark
 -- and the backslash two
 abbrev pub byte_bound : ℕ → ℕ
 byte_bound x = cond (nat_lt x 35 || x == 92) 6 1

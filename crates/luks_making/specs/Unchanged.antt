@@ -24,12 +24,12 @@ use Rattle.luks_making.specs.Naming.{IsDigestOf}
 use Rattle.luks_making.specs.With.{with_name}
 use Rattle.luks_making.specs.Without.{without_name, without_names}
 
--- the members of the value are as they were, but for those of the names
+-- the members of the value are as they were, except for those of the names
 abbrev pub KeepsOthers : List (List ℕ) → Data → Data → Type 0
 KeepsOthers names old new =
     (k : List ℕ) → list_any (bytes_eq k) names ≡ false → get k new ≡ get k old
 
--- the section has the objects that it had, and their members are as they were, but for those of the
+-- the section has the objects that it had, and their members are as they were, except for those of the
 -- names
 pub record KeepsObjects (names : List (List ℕ)) (s : Section) (old new : Data) : Type 0 where
   pub there : (m : ℕ) (was : Data) → object_at old s m ≡ Some was
@@ -141,7 +141,7 @@ pub record SaysMembers (s : SlotMembers) (d : Data) : Type 0 where
 
 -- ---- a value with a changed keyslot
 
--- the keyslot `d` derives as `was`, but for the salt, and for the iterations where it does so by PBKDF2
+-- the keyslot `d` derives as `was`, except for the salt, and for the iterations where it does so by PBKDF2
 pub record KeepsDerivation (n : ℕ) (was d : Data) : Type 0 where
   pub iterations : type_at was outer.Kdf ≡ Some (codes "pbkdf2")
       → number_in 1 4294967295 (member_at d outer.Kdf name.Iterations) ≡ Some n
@@ -184,7 +184,7 @@ pub record ChangesSlot (n : ℕ) (f : NewMembers) (old new : Data) : Type 0 wher
 
 -- ---- a value with a change of named members
 
--- of a keyslot and a token that may be named: but for the priority of that keyslot and for that token the
+-- of a keyslot and a token that may be named: except for the priority of that keyslot and for that token the
 -- value is as it was, and a keyslot has the digest that it had
 pub record KeepsUnnamed (slot token : Option ℕ) (old new : Data) : Type 0 where
   pub keyslots : (m : ℕ) → slot ≢ Some m → object_at new Keyslots m ≡ object_at old Keyslots m

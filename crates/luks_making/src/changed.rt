@@ -136,7 +136,7 @@ fn renewed_in(
 }
 
 /// The metadata with the keyslot's new derivation and area (LUKS2 On-Disk Format 1.1, section 3.2).
-/// Where nothing is chosen the derivation is as it was, but for its salt and iterations; one that has
+/// If nothing is chosen the derivation is as it was, except for its salt and iterations; one that has
 /// no iterations gets none. All else is as in `value`, which is edited in place.
 ///
 /// Takes memory for the new members.

@@ -26,14 +26,14 @@ pub fn names_are_apart()
     ensures { (m n : ℕ) → number_text m ≡ number_text n → m ≡ n }
 {}
 
-/// Metadata without a keyslot meets every rule that it met, and all else is as it was but for the
+/// Metadata without a keyslot meets every rule that it met, and all else is as it was except for the
 /// keyslot's name, which its digest and the tokens lose.
 pub fn removal_keeps_the_rest()
     ensures held { (len n : ℕ) (j : Data) → IsHeld len j → IsHeld len (without_slot n j) }
     ensures rest { (n : ℕ) (j : Data) → LosesSlot n j (without_slot n j) }
 {}
 
-/// Metadata without any keyslot meets every rule that it met, and all else is as it was but for the
+/// Metadata without any keyslot meets every rule that it met, and all else is as it was except for the
 /// names of keyslots, of which digests and tokens have none.
 pub fn erasure_keeps_the_rest()
     ensures held { (len : ℕ) (j : Data) → IsHeld len j → IsHeld len (without_slots j) }
@@ -41,7 +41,7 @@ pub fn erasure_keeps_the_rest()
 {}
 
 /// Metadata with one more keyslot meets every rule that it met, where there is room for the
-/// keyslot, and all else is as it was but for its name, which its digest gains.
+/// keyslot, and all else is as it was except for its name, which its digest gains.
 pub fn addition_keeps_the_rest()
     ensures held { (len n m : ℕ) (s : SlotMembers) (j d : Data) → IsHeld len j
         → IsRoom len n m s j d → IsHeld len (with_slot n m s j) }
@@ -74,7 +74,7 @@ pub fn change_keeps_the_rest()
         → FitsNew f → ChangesSlot n f j (changed_slot n f j) }
 {}
 
-/// Metadata with another priority of a keyslot, with a token or without one is as it was but for that, and
+/// Metadata with another priority of a keyslot, with a token or without one is as it was except for that, and
 /// a keyslot has the digest that it had. It meets every rule that it met; with a token it may break one.
 pub fn amendment_keeps_the_rest()
     ensures held_prior { (len n : ℕ) (p : Priority) (j : Data) → IsHeld len j
@@ -86,7 +86,7 @@ pub fn amendment_keeps_the_rest()
     ensures lost { (n : ℕ) (j : Data) → LosesToken n j (without_token n j) }
 {}
 
-/// Where no derivation is chosen, a keyslot that is sealed again derives as it did but for its salt and
+/// If no derivation is chosen, a keyslot that is sealed again derives as it did except for its salt and
 /// iterations, and one that is made with the members of another derives as that one.
 pub fn unchosen_derives_alike()
     ensures changed { (f : NewMembers) (hash : List ℕ) (k : Data) → f.derivation.chosen ≡ None

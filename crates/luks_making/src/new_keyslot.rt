@@ -24,7 +24,7 @@ pub struct New<'a> {
     pub size: u64,
 }
 
-/// How the key of a keyslot's area is derived, but for the salt.
+/// How the key of a keyslot's area is derived, except for the salt.
 #[derive(Clone, Copy)]
 pub enum KeyslotDerivation<'a> {
     /// The type `pbkdf2`.

@@ -16,7 +16,7 @@ use crate::without::without_slot;
 use serde_json::Value;
 use std::alloc::{AllocError, Global};
 
-/// What an enabled keyslot of a LUKS1 header says, but for where its key material lies.
+/// What an enabled keyslot of a LUKS1 header says, except for where its key material lies.
 #[derive(Clone, Copy)]
 pub struct SourceSlot {
     /// The derivation's iterations.
@@ -27,7 +27,7 @@ pub struct SourceSlot {
     pub stripes: u32,
 }
 
-/// What a LUKS1 header says, but for its uuid, which isn't a member of the metadata.
+/// What a LUKS1 header says, except for its uuid, which isn't a member of the metadata.
 #[derive(Clone, Copy)]
 pub struct SourceVolume<'a> {
     /// The hash of the derivation, the splitter and the digest.
@@ -48,7 +48,7 @@ pub struct SourceVolume<'a> {
     pub slots: [Option<SourceSlot>; 8],
 }
 
-/// Where the region of the key areas begins, behind two copies of 16384 bytes.
+/// The start of the region of the key areas, after two copies of 16384 bytes.
 const REGION_START: u64 = 32768;
 
 /// Where it ends at the latest, in bytes.
@@ -121,7 +121,7 @@ pub fn area_size(volume: &SourceVolume<'_>, slot: &SourceSlot) -> u64
     material.next_multiple_of(BLOCK)
 }
 
-/// Where the new area of the keyslot `number` begins, in bytes from the header's start: the areas
+/// The start of the new area of the keyslot `number`, in bytes from the header's start: the areas
 /// follow each other by the numbers of the enabled keyslots from 32768 on. For 8, where the last one
 /// ends.
 pub fn area_start(volume: &SourceVolume<'_>, number: usize) -> u64

@@ -17,7 +17,7 @@ column n = replicate (20 - length (decimal n)) 32 ++ decimal n
 abbrev pub outside_text : ℕ → ℕ → List ℕ
 outside_text total end = if nat_lt total end then codes "  outside" else []
 
--- two spaces part the first mark from what stands before it, one space the second from the first
+-- two spaces part the first mark from what precedes it, one space the second from the first
 abbrev pub overlap_mark : ℕ → TheArea → List ℕ
 overlap_mark total a = if nat_lt total (a.start + a.len) then codes " overlap" else codes "  overlap"
 

@@ -21,7 +21,7 @@ abbrev pub IsHeaderRows : Listing → ℕ → List Row → Type 0
 IsHeaderRows (Luks1 header) total rows = length header.slots ≡ 8 → rows ≡ luks1_rows header total
 IsHeaderRows (Luks2 copy) total rows = IsLuks2Rows copy total rows
 
--- each row stands at the place of the next or before it, and at one place by the order of ranks
+-- each row is at the place of the next or before it, and at one place by the order of ranks
 abbrev pub IsInOrder : List Row → Type 0
 IsInOrder rows = (k : ℕ) (d : Row) → k + 1 < length rows → NotAfter (row_key (slice_index_or rows k d)) (row_key (slice_index_or rows (k + 1) d))
 

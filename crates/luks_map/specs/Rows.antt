@@ -1,4 +1,4 @@
--- The rows of a map, but for the gaps: where each stands, and how far it reaches.
+-- The rows of a map, except for the gaps: where each stands, and how far it reaches.
 use Rattle.std.specs.Prelude.{ℕ, ◌+◌, ◌*◌, List, [], ◌∷◌}
 use Rattle.luks_area.specs.declared.area.AreaName.{AreaName}
 use Rattle.luks_area.specs.declared.area.AreaName.TheVariants as name

@@ -130,7 +130,7 @@ fn overlap_mark(total: u64, reached: u128, area: &Area) -> &'static str
     }
 }
 
-/// The mark, as it stands behind what goes before: that the area ends outside, or what it is.
+/// The mark, as it follows what goes before: that the area ends outside, or what it is.
 fn overlap_behind(total: u64, area: &Area) -> &'static str
     ensures { result.now ≡ overlap_mark total area.now }
 {

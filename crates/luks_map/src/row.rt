@@ -1,4 +1,4 @@
-//! The rows of a map, but for the gaps.
+//! The rows of a map, except for the gaps.
 ghost use Rattle.std.specs.Prelude.{◌≡◌, ◌+◌, ◌*◌};
 ghost use Rattle.luks_map.specs.Rows.{place, rank, reach};
 
@@ -20,7 +20,7 @@ pub enum Row {
     },
     /// The end of a volume of so many bytes.
     VolumeEnd(u64),
-    /// Where the segment of this number lies that is kept as a backup: it says how data was or will be, and no
+    /// The place of the segment of this number that is kept as a backup: it says how data was or will be, and no
     /// data is read by it.
     Backup(u8, Area),
 }
@@ -33,7 +33,7 @@ impl Default for Row {
 }
 
 impl Row {
-    /// Where the row stands: where an area or a backup begins, or what ends there.
+    /// The place of the row: where an area or a backup begins, or what ends there.
     pub(crate) fn place(&self) -> u128
         ensures { result ≡ place self.now }
     {

@@ -26,7 +26,7 @@ pub absent_one : {A : Type 0} (o : Option A) → None ≡ o → is_some o ≡ tr
 absent_one None e h = false≢true h
 absent_one (Some x) e h = cc
 
--- the row of the member that stands in the object itself, or in the one inside it
+-- the row of the member that is in the object itself, or in the one inside it
 abbrev pub is_row_of : Outer → Member → Row → Bool
 is_row_of o n r = bytes_eq (row_path r) (outer_path o ++ member_name n)
 

@@ -84,7 +84,7 @@ pub struct Keyslot<'a> {
     pub priority: Option<u8>,
     /// How the key is split (LUKS2 On-Disk Format 1.1, 3.2.4).
     pub af: Splitter<'a>,
-    /// Where its key material lies (3.2.3).
+    /// The area of its key material (3.2.3).
     pub area: KeyArea<'a>,
     /// How a passphrase gives the key of that area (3.2.5).
     pub kdf: Derivation<'a>,

@@ -7,7 +7,7 @@ use Rattle.luks_rules.specs.Accepted.{HasObject}
 use Rattle.luks_making.specs.Conditions.{FitsSlot, IsFree, IsInRegion}
 use Rattle.luks_making.specs.Keyslots.{IsMadeFrom, NewMembers, SlotMembers, slot_value}
 
--- `made` is the value of a keyslot with the members of the keyslot `by` of the metadata `old`, but for
+-- `made` is the value of a keyslot with the members of the keyslot `by` of the metadata `old`, except for
 -- what is new
 pub record IsMadeLike (by : ℕ) (f : NewMembers) (old made : Data) : Type 0 where
   pub from : Data

@@ -13,7 +13,7 @@ use Rattle.luks_meta.specs.declared.tokens.Token.{Token}
 use Rattle.luks_meta.specs.Objects.{IsConfig, IsMissing, IsObject}
 use Rattle.luks_meta.specs.Says.{TellsDigest, TellsKeyslot, TellsSegment, TellsToken}
 
--- the two digests are equal, but for the keyslots that they name
+-- the two digests are equal, except for the keyslots that they name
 pub record SameDigest (k l : Digest) : Type 0 where
   pub hash : l.hash.now ≡ k.hash.now
   pub iterations : l.iterations ≡ k.iterations
@@ -22,7 +22,7 @@ pub record SameDigest (k l : Digest) : Type 0 where
   pub segments : l.segments.items ≡ k.segments.items
 
 -- of an edit of the keyslot `n`: of each other keyslot, each segment and `config` the same is
--- told, and of each digest and token the same but for its keyslots
+-- told, and of each digest and token the same except for its keyslots
 pub record KeepsRecords (n : ℕ) (old new : Data) : Type 0 where
   pub keyslots : (m : ℕ) (k : Keyslot) → m ≢ n
       → IsObject TellsKeyslot old Keyslots m k ↔ IsObject TellsKeyslot new Keyslots m k
@@ -49,7 +49,7 @@ pub record LosesNumber (n : ℕ) (old new : Data) : Type 0 where
       → IsObject TellsToken new Tokens m l → l.keyslots.items ≡ others n k.keyslots.items
 
 -- no keyslot is told, and none that a digest or token names; of each segment and `config` the same is
--- told, and of each digest and token the same but for its keyslots
+-- told, and of each digest and token the same except for its keyslots
 pub record LosesNumbers (old new : Data) : Type 0 where
   pub keyslots : (n : ℕ) → IsMissing new Keyslots n
   pub digests : (m : ℕ) (k l : Digest) → IsObject TellsDigest old Digests m k
@@ -98,7 +98,7 @@ abbrev pub with_own_priority : Option ℕ → Keyslot → Keyslot
 with_own_priority p k =
     record { key_size = k.key_size; priority = p; af = k.af; area = k.area; kdf = k.kdf }
 
--- of the keyslot `n` the same is told but for its priority, and of all else the same
+-- of the keyslot `n` the same is told except for its priority, and of all else the same
 pub record KeepsButPriority (n : ℕ) (p : Priority) (old new : Data) : Type 0 where
   pub keyslot : (k : Keyslot) → n < 32 → IsObject TellsKeyslot old Keyslots n k
       → IsObject TellsKeyslot new Keyslots n (with_own_priority (priority_number p) k)

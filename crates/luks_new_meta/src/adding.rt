@@ -55,7 +55,7 @@ fn derived_as<'a>(keyslot: &Keyslot<'a>, asked: &AskedDerivation) -> KeyslotDeri
     }
 }
 
-/// A keyslot with the members of another, but for what is new.
+/// A keyslot with the members of another, except for what is new.
 fn made_from<'a>(keyslot: &Keyslot<'a>, new: &New<'a>) -> NewKeyslot<'a>
     ensures { (d : Data) → TellsKeyslot d keyslot.now
         → IsMadeFrom d (new_members new.now) (slot_members result) }
@@ -73,7 +73,7 @@ fn made_from<'a>(keyslot: &Keyslot<'a>, new: &New<'a>) -> NewKeyslot<'a>
     }
 }
 
-/// The value of a keyslot with the members of the keyslot `by`, but for what is new.
+/// The value of a keyslot with the members of the keyslot `by`, except for what is new.
 fn made_value(alloc: Global, meta: &Meta, by: u8, new: &New<'_>) -> Result<Value, AllocError>
     requires { IsThere (content meta.now) by }
     ensures { IfOk result (λ v.
@@ -84,7 +84,7 @@ fn made_value(alloc: Global, meta: &Meta, by: u8, new: &New<'_>) -> Result<Value
     slot_value(alloc, &keyslot)
 }
 
-/// The value with the keyslot `to`, which is made with the members of the keyslot `by` but for what is
+/// The value with the keyslot `to`, which is made with the members of the keyslot `by` except for what is
 /// new, and named by its digest. The metadata is given up.
 pub(crate) fn added(
     alloc: Global,

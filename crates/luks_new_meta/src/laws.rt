@@ -8,8 +8,8 @@ ghost use Rattle.luks_making.specs.Unchanged.{ChangesSlot, GainsSlot, KeepsRest,
 ghost use Rattle.luks_new_meta.specs.Records.{GainsNumber, KeepsButPriority, KeepsNumbers, KeepsRecords, KeepsTold, LosesNumber, LosesNumbers};
 
 /// Of what an edit of a keyslot doesn't name the readers tell the same records; of a digest or
-/// token that it names they tell the same but for its keyslots, which lose or gain that one. Of a keyslot
-/// whose priority is set they tell the same but for that. Where no keyslot is left they tell none, and none
+/// token that it names they tell the same except for its keyslots, which lose or gain that one. Of a keyslot
+/// whose priority is set they tell the same except for that. If no keyslot is left they tell none, and none
 /// that a digest or token names.
 pub fn edits_keep_records()
     ensures rest { (n : ℕ) (old new : Data) → KeepsRest n old new → KeepsRecords n old new }

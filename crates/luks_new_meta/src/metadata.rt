@@ -105,7 +105,7 @@ pub fn without_slots(alloc: Global, meta: Meta) -> Result<Meta, AllocError>
 }
 
 /// The metadata with the keyslot `to`, without a priority: it has the members of the keyslot `by`, the
-/// costs of its derivation too where none is chosen, but for what is new. Its name goes last in the array of the
+/// costs of its derivation too where none is chosen, except for what is new. Its name goes last in the array of the
 /// digest that names `by`. All else stays as it is. No digest's name stands twice in the metadata,
 /// which is given up: its value is edited in place.
 ///

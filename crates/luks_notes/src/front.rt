@@ -39,7 +39,7 @@ impl From<AllocError> for FrontFault {
     }
 }
 
-/// The first 8 MiB of a volume, or all of it where it has fewer: second copies of headers stand there,
+/// The first 8 MiB of a volume, or all of it where it has fewer: second copies of headers are there,
 /// and the signatures that are looked for. They are read in one call.
 ///
 /// `Device` where that call failed, `Memory` where as many bytes were refused.

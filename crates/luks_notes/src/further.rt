@@ -112,7 +112,7 @@ fn second_of<D: Device, E: Write>(
     Ok(search.found)
 }
 
-/// What is found so of a header of this size, if there is anything. Where no copy of it stands nothing is hashed.
+/// What is found by a header of this size, if anything is. If there is no copy of it, nothing is hashed.
 fn size_of<D: Device, E: Write>(
     alloc: Global,
     device: &mut D,
@@ -148,7 +148,7 @@ fn size_of<D: Device, E: Write>(
     Ok(search.found)
 }
 
-/// Says what is whole of headers of other sizes than that of which a header is made, but for what is the second
+/// Says what is whole of headers of other sizes than that of which a header is made, except for what is the second
 /// copy's.
 fn say_sizes<D: Device, E: Write>(
     alloc: Global,

@@ -43,7 +43,7 @@ impl Hashing {
         }
     }
 
-    /// Counts a search with this effort. Where not so much is left it counts nothing, and the search isn't to be
+    /// Counts a search with this effort. If not so much is left it counts nothing, and the search isn't to be
     /// made.
     pub(crate) fn take(&mut self, effort: Effort) -> bool
         requires { IsOfCommand self.old }

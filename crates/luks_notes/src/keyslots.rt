@@ -9,7 +9,7 @@ use std::alloc::Global;
 use std::io::Write;
 
 /// Says to `err` of the volume of this name, which no passphrase has opened, that it has no keyslot,
-/// or of LUKS1 none that is enabled. Where it has one, and where its header can't be read, it says
+/// or of LUKS1 none that is enabled. If it has one, and where its header can't be read, it says
 /// nothing.
 pub fn note_no_keyslots<D: Device, E: Write>(
     alloc: Global,

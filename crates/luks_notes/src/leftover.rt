@@ -42,7 +42,7 @@ impl Leftover {
     }
 }
 
-/// Whether a sound second copy stands at this place: whether it is chosen where zeros stand before it.
+/// Whether a sound second copy is at this place: whether it is chosen where zeros come before it.
 fn is_sound(alloc: Global, front: &[u8], place: usize) -> Result<bool, AllocError>
     requires { 592 ≤ place }
     ensures { IfOk result (λ sound. IsTrue sound ↔ IsSound front.now place) }
@@ -65,7 +65,7 @@ fn behind_zeros(alloc: Global, front: &[u8], place: usize) -> Result<Vec<u8>, Al
     Ok(bytes)
 }
 
-/// Whether these bytes stand at this place.
+/// Whether these bytes are at this place.
 fn holds(front: &[u8], place: usize, bytes: &[u8]) -> bool
     ensures { IsTrue result ↔ (part front.now place (length bytes.now) ≡ bytes.now) }
 {

@@ -2,7 +2,7 @@
 //! metadata is whole, of a volume of which no header counts and of one whose header was rebuilt; which
 //! keyslots were lost where that was a LUKS1 header; that a volume has no keyslot, or that another program has
 //! moved its key areas; which keyslots weren't tried, and why; that the key of one that opens is of no segment;
-//! that nobody types a passphrase at a prompt; and what stands on a volume that was just made where nothing was
+//! that nobody types a passphrase at a prompt; and what is on a volume that was just made where nothing was
 //! written, as second copies of older headers, and the signatures of file systems and of swap.
 #![tactic(auto)]
 

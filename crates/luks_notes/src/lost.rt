@@ -13,7 +13,7 @@ use std::io::Write;
 /// The bytes of the header.
 const HEADER: usize = 592;
 
-/// Where the first of its eight entries stands, and the bytes of each.
+/// The place of the first of its eight entries, and the bytes of each.
 const KEYSLOTS: usize = 208;
 
 const ENTRY: usize = 48;
@@ -22,7 +22,7 @@ const ENTRY: usize = 48;
 const DISABLED: u32 = 0x0000_DEAD;
 
 /// Says to `err` which keyslots of the volume, whose entries don't say that they are free, are disabled in
-/// the LUKS1 header that was made of it on the target: they may have been in use. Where no LUKS1 header
+/// the LUKS1 header that was made of it on the target: they may have been in use. If no LUKS1 header
 /// begins the target, and where one of the two can't be read, it says nothing.
 pub fn note_lost<D: Device, E: Write>(volume: &mut D, target: &mut D, err: &mut E)
     requires volume_room { D.failed volume.old + 1 < 2 ^ 64 }

@@ -17,7 +17,7 @@ use std::io::Write;
 
 /// Says to `err` of a volume of which no header counts in which copy metadata is whole, the first in
 /// the order of `rebuild`, and that a header can be made of it; whether a checksum vouches for it, and
-/// whether it is of an older volume; and what other metadata is whole there. Where no metadata is whole it
+/// whether it is of an older volume; and what other metadata is whole there. If no metadata is whole it
 /// says of which copy not all was tried; where a header counts nothing, and where the device fails or memory
 /// is refused no more. What its searches may hash is counted.
 pub fn note_whole<D: Device, E: Write>(
@@ -35,7 +35,7 @@ pub fn note_whole<D: Device, E: Write>(
     let _ = say_whole(alloc, device, hashing, err);
 }
 
-/// The same, until a fault ends it.
+/// Says it until a fault ends it.
 fn say_whole<D: Device, E: Write>(
     alloc: Global,
     device: &mut D,

@@ -15,7 +15,7 @@ const NEW_PLACE: u64 = 32768;
 const PART: usize = 512;
 
 /// Says to `err` of the volume of this name, which has an accepted LUKS1 header and which no passphrase has
-/// opened, that `cryptsetup convert` has moved its key areas and broke off, where it is so. Where that can't be
+/// opened, that `cryptsetup convert` has moved its key areas and broke off, where it is so. If that can't be
 /// read it says nothing.
 pub fn note_moved_areas<D: Device, E: Write>(device: &mut D, volume: &str, err: &mut E)
     requires { D.failed device.old + 1 < 2 ^ 64 }

@@ -39,7 +39,7 @@ pub fn leftovers(alloc: Global, front: &[u8], own: usize) -> Result<Vec<Leftover
 }
 
 /// Says to `err` that this was left on the volume of this name: a line for each, and one by what they are
-/// taken away. Where nothing was left it says nothing.
+/// taken away. If nothing was left it says nothing.
 ///
 /// The volume begins at the byte `begins` of its file. The bytes that are named count from there, so
 /// that a tool has to be given a device that begins there too.

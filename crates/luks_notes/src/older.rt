@@ -7,7 +7,7 @@ use luks_area::{Device, DeviceFault};
 use luks2_header::Bin2;
 use std::io::Write;
 
-/// The bytes of a binary header. In those of a LUKS1 header the version and the uuid stand at the same
+/// The bytes of a binary header. In those of a LUKS1 header the version and the uuid are at the same
 /// places.
 const HEADER: usize = 4096;
 

@@ -110,7 +110,7 @@ fn older_part(header: &Header, n: u8) -> OlderPart
     }
 }
 
-/// The same of a LUKS1 header, these 592 bytes, of which all keyslots have one cipher and one hash.
+/// The older part of a LUKS1 header, these 592 bytes, of which all keyslots have one cipher and one hash.
 fn luks1_part(header: &[u8]) -> OlderPart
     requires { length header.now ≡ 592 }
     ensures { IsLuks1Part header.now result }
@@ -144,7 +144,7 @@ fn bytes_at(bytes: &[u8], at: usize, len: usize) -> &[u8]
     &bytes[at..at + len]
 }
 
-/// The same of LUKS2's metadata.
+/// The older part of a keyslot of LUKS2 metadata.
 fn luks2_part(meta: &Meta, n: u8) -> OlderPart
     ensures { IsLuks2Part (content meta.now) n result }
 {

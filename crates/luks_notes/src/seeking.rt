@@ -40,7 +40,7 @@ impl Search {
     }
 }
 
-/// Seeks the candidate of these copies. Where less is left of what may be hashed than this search may hash, it isn't
+/// Seeks the candidate of these copies. If less is left of what may be hashed than this search may hash, it isn't
 /// made, and standard error says so.
 pub(crate) fn sought<D: Device, E: Write>(
     alloc: Global,

@@ -29,7 +29,7 @@ pub fn note_wanting<E: Write>(header: &Header, n: u8, total: u64, allowed: Allow
     }
 }
 
-/// The same of each keyslot that is tried.
+/// Notes how much memory each keyslot wants that is tried.
 pub fn note_all_wanting<E: Write>(header: &Header, total: u64, allowed: Allowed, err: &mut E)
     requires { IsAcceptedHeader header.now }
 {

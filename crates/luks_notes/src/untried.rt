@@ -10,7 +10,7 @@ use std::alloc::Global;
 use std::io::Write;
 
 /// Says to `err` of which copy that is asked for not all was tried that its checksum may vouch for, since that
-/// has more bytes together than may be hashed for it. Where all was tried, the device fails or memory is refused it
+/// has more bytes together than may be hashed for it. If all was tried, the device fails or memory is refused it
 /// says nothing.
 pub fn note_untried<D: Device, E: Write>(alloc: Global, device: &mut D, which: Which, err: &mut E)
     requires { D.failed device.old + 1 < 2 ^ 64 }
@@ -19,7 +19,7 @@ pub fn note_untried<D: Device, E: Write>(alloc: Global, device: &mut D, which: W
     let _ = say_untried(alloc, device, which, err);
 }
 
-/// The same, until a fault ends it.
+/// Says it until a fault ends it.
 pub(crate) fn say_untried<D: Device, E: Write>(
     alloc: Global,
     device: &mut D,

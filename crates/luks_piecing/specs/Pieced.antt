@@ -16,7 +16,7 @@ use Rattle.luks_piecing.specs.Given.{IsGivenText}
 use Rattle.luks_piecing.specs.declared.given.GivenSegment.{GivenSegment}
 use Rattle.luks_piecing.specs.declared.joining.Pieced.{Pieced}
 
--- the bytes stand at the place, and are a fragment of the kind
+-- the bytes are at the place, and are a fragment of the kind
 pub record IsTextAt (v : List ℕ) (at : ℕ) (kind : Kind) (text : List ℕ) : Type 0 where
   pub len : ℕ
   pub is : text ≡ part v at len
@@ -35,7 +35,7 @@ pub record IsWrittenOf (region n m : ℕ) (keyslot digest segment json : List �
   pub accepted : IsMeta (area_of (made_text region n m keyslot digest segment)) value
   pub written : IsWrittenArea area_length value json
 
--- the objects stand at these places, or the segment is given; and the region of key areas is as small as the keyslot needs
+-- the objects are at these places, or the segment is given; and the region of key areas is as small as the keyslot needs
 pub record IsMadeOf (v : List ℕ) (given : Option GivenSegment) (n keyslot_at digest_at : ℕ) (segment_at : Option ℕ) (json : List ℕ) : Type 0 where
   pub numbered : n < 32
   pub keyslot : List ℕ

@@ -8,7 +8,7 @@ use std::alloc::{AllocError, Global};
 /// A cipher's name has no more bytes.
 const LONGEST_NAME: usize = 64;
 
-/// The segment that holds the data, as it is given where none stands whole.
+/// The segment that holds the data, as it is given where none is whole.
 #[derive(Debug, Clone, Copy, PartialEq, Eq)]
 pub struct GivenSegment<'a> {
     /// Where it begins, in bytes.

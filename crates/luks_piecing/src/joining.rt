@@ -24,11 +24,11 @@ pub struct Pieced {
     pub json: Vec<u8>,
     /// The keyslot that opens, 0 to 31.
     pub slot: u8,
-    /// Where the keyslot stands, in bytes from the source's start.
+    /// The place of the keyslot, in bytes from the source's start.
     pub keyslot: u64,
-    /// Where the digest stands.
+    /// The place of the digest.
     pub digest: u64,
-    /// Where the segment stands: none where it is given.
+    /// The place of the segment: none if it is given.
     pub segment: Option<u64>,
 }
 

@@ -1,4 +1,4 @@
-//! Metadata of LUKS2 that is put together of a keyslot and a digest which stand whole in a volume, and of a segment which does
+//! Metadata of LUKS2 that is put together of a keyslot and a digest which are whole in a volume, and of a segment which does
 //! or is given, by which a passphrase opens the keyslot. Nothing is written, and each derivation is counted before it is made.
 #![tactic(auto)]
 

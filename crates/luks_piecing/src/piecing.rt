@@ -27,8 +27,8 @@ pub(crate) struct Seen<'a> {
     pub(crate) region: u64,
 }
 
-/// The first metadata that is put together of a keyslot, a digest and a segment, which stand whole in the first 8 MiB of the
-/// source, by which the passphrase opens the keyslot; None where it opens none so. Where a segment is given, it is taken
+/// The first metadata that is put together of a keyslot, a digest and a segment, which are whole in the first 8 MiB of the
+/// source, by which the passphrase opens the keyslot; None where it opens none so. If a segment is given, it is taken
 /// in place of one that stands.
 ///
 /// The first 8 MiB are read in pieces of 1 MiB. Of each kind the first 64 count, of segments those that encrypt; what stands
@@ -69,7 +69,7 @@ pub fn search_fragments<D: Device, P: Progress>(
     Ok(None)
 }
 
-/// The same with the keyslot at the spot.
+/// Searches with the keyslot at the spot.
 fn by_keyslot<D: Device, P: Progress>(
     alloc: Global,
     source: &mut D,
@@ -106,7 +106,7 @@ fn by_keyslot<D: Device, P: Progress>(
     by_seen(alloc, source, &seen, spots, given, trying, tally, progress)
 }
 
-/// The same with this keyslot.
+/// Searches with this keyslot.
 fn by_seen<D: Device, P: Progress>(
     alloc: Global,
     source: &mut D,
@@ -143,7 +143,7 @@ fn by_seen<D: Device, P: Progress>(
     Ok(None)
 }
 
-/// The same with the digest at the spot, and the segment that was seen there, if none is given.
+/// Tries the digest at the spot, and the segment that was seen there, if none is given.
 fn by_digest<D: Device, P: Progress>(
     alloc: Global,
     source: &mut D,
@@ -195,7 +195,7 @@ fn by_digest<D: Device, P: Progress>(
     }))
 }
 
-/// The number, or 0 where none stands before a fragment.
+/// The number, or 0 where none comes before a fragment.
 fn number_of(number: Option<u8>) -> u8
     ensures { result < 32 }
 {

@@ -33,7 +33,7 @@ pub(crate) struct Spot {
     pub(crate) at: u64,
     /// How many bytes it has.
     pub(crate) len: usize,
-    /// The number that stands before it, if one does.
+    /// The number that comes before it, if one does.
     pub(crate) number: Option<u8>,
     /// The first segment that it names, if it is a digest and names one.
     pub(crate) segment: Option<u8>,
@@ -121,7 +121,7 @@ fn add_piece<D: Device>(
     Ok(())
 }
 
-/// Adds the fragments of these bytes, which stand at `at`, from the place `first` on.
+/// Adds the fragments of these bytes, which are at `at`, from the place `first` on.
 fn add_fragments(
     alloc: Global,
     at: u64,
@@ -145,7 +145,7 @@ fn add_fragments(
     Ok(())
 }
 
-/// Adds the fragment of these bytes, which stand at `at`, if there is room for it.
+/// Adds the fragment of these bytes, which are at `at`, if there is room for it.
 fn add(spots: &mut Spots, at: u64, bytes: &[u8], fragment: &Fragment)
     requires long { at + length bytes.now < 2 ^ 64 }
     requires inside { fragment.now.start + fragment.now.len ≤ length bytes.now }
@@ -178,13 +178,13 @@ fn keep(spots: &mut ArrayVec<Spot, 64>, spot: Spot, at: u64, bytes: &[u8]) {
     }
 }
 
-/// Whether one of the spots has the same number and the same text in these bytes, which stand at `at`.
+/// Whether one of the spots has the same number and the same text in these bytes, which are at `at`.
 fn is_seen(spots: &[Spot], spot: &Spot, at: u64, bytes: &[u8]) -> bool {
     let text = text_of(spot, at, bytes);
     spots.iter().any(|seen| seen.number == spot.number && text_of(seen, at, bytes) == text)
 }
 
-/// The text at the spot, if it lies in these bytes, which stand at `at`.
+/// The text at the spot, if it lies in these bytes, which are at `at`.
 fn text_of<'a>(spot: &Spot, at: u64, bytes: &'a [u8]) -> Option<&'a [u8]> {
     let start = spot.at.checked_sub(at)? as usize;
     bytes.get(start..)?.get(..spot.len)

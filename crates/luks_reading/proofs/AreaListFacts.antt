@@ -31,7 +31,7 @@ pub has-new : (es : List Entry) (e : Entry) (n : AreaName) (a : Area) → (e.nam
 has-new [] e n a h = inl h
 has-new (x ∷ es) e n a h = inr (has-new es e n a h)
 
--- nothing stands before the first name
+-- nothing comes before the first name
 pub lists-empty : (areas : AreaName → Area → Type 0) → ListsBelow [] areas Head1
 lists-empty areas = record {
   below = λ n a h. absurd h;

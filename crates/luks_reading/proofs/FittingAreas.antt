@@ -27,7 +27,7 @@ same_name (Segment i) Head1 k e = absurd (omega (arith, k))
 same_name (Segment i) Head2 k e = absurd (omega (arith, k))
 same_name (Segment i) (Slot j) k e = absurd (omega (arith, k))
 
--- of two names one stands before the other
+-- of two names one comes before the other
 before_or_after : (m n : AreaName) → m ≢ n → IsBefore m n ⊎ IsBefore n m
 before_or_after m n differ =
     elim (cases_order (name_kind m) (name_kind n)) [

@@ -260,7 +260,7 @@ unread_answered v asked older key (reading.Meta f) x = unread_own v asked older 
 unread_answered v asked older key reading.Device x = tt
 unread_answered v asked older key reading.Memory x = x
 
--- an answer that is neither the device's nor want of memory
+-- an answer that is neither the device's nor a failed allocation
 pub own_answered : (v : List ℕ) (asked : Option ℕ) (older : Bool) (key : List ℕ) (r : Result KeyMatch KeyFault) → IfErr r (λ f. is_own_key_fault f ≡ true)
     → IsKeyAnswer v asked older key r → IsKeyAnswered v asked older key r
 own_answered v asked older key (Ok found) own x = x

@@ -72,7 +72,7 @@ luks2_opens allowed v n p o copies None chosen x = record { choice = luks2 o cop
 
 -- ---- a header that isn't read
 
--- a selection's faults stand in the first step
+-- a selection's faults are in the first step
 pub step_one : (v : List ℕ) (f : HeadFault) → IsSelectFault v f → head_step f ≡ 1
 step_one v head.TooShort x = refl
 step_one v head.NotLuks x = refl

@@ -50,7 +50,7 @@ luks1_area-unique h payload total (Slot n) a b p q = same_area a b (p.1 ∙ sym 
 luks1_area-unique h payload total (Segment n) a b p q =
     same_area a b (p.2 ∙ sym q.2) (p.3 ∙ ap (λ s. total - s) (p.2 ∙ sym q.2) ∙ sym q.3)
 
--- a name that isn't past the slot `n` is the slot `n` or stands before it
+-- a name that isn't past the slot `n` is the slot `n` or comes before it
 not_past : (h : List ℕ) (payload : Data) (total n : ℕ) (a : Area) → Luks1Area h payload total (Slot n) a
     → (m : AreaName) (b : Area) → Luks1Area h payload total m b → IsBefore m (Slot (n + 1)) → IsBefore m (Slot n) ⊎ ((Slot n ≡ m) × (a ≡ b))
 not_past h payload total n a is Head1 b g before = inl (omega arith, λ e. absurd (omega (arith, e)))

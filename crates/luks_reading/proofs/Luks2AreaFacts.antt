@@ -54,7 +54,7 @@ slot_wider n m h = (h.0, λ e. let lt = h.1 e in omega (arith, lt))
 segment_wider : (n : ℕ) (m : AreaName) → IsBefore m (Segment n) → IsBefore m (Segment (n + 1))
 segment_wider n m h = (h.0, λ e. let lt = h.1 e in omega (arith, lt))
 
--- a name of the set before the next slot is this slot or stands before it
+-- a name of the set before the next slot is this slot or comes before it
 slot_between : (j : Json) (h : ℕ) (payload : Data) (total n : ℕ) (m : AreaName) (b : Area) → Luks2Area j h payload total m b
     → IsBefore m (Slot (n + 1)) → IsBefore m (Slot n) ⊎ ((Slot n ≡ m) × Luks2Area j h payload total (Slot n) b)
 slot_between j h payload total n (Slot k) b g before =

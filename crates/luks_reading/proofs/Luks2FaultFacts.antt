@@ -122,7 +122,7 @@ least_segment b json payload total j n faultless holds first =
     after (Area g) is = (omega arith, λ e. absurd (omega (arith, e)))
     after other is = absurd is
 
--- a fault of the metadata stands before that of any segment
+-- a fault of the metadata comes before that of any segment
 pub before_segment : (json : List ℕ) (f : MetaFault) (n : ℕ) → IsMetaFault json f → NotAfter (meta_key f) (meta_key (meta.Region (Segment n)))
 before_segment json (meta.Region Head1) n is = absurd is.fault
 before_segment json (meta.Region Head2) n is = absurd is.fault

@@ -110,7 +110,7 @@ pub plan_judged2 : (allowed : Allowed) (b json : List ℕ) (total n : ℕ) (j : 
 plan_judged2 allowed b json total n j plan (Some f) clear only is refused accepted = plan_first2 allowed b json total n j plan f clear only is refused
 plan_judged2 allowed b json total n j plan None clear only is refused accepted = plan_unrefused2 allowed b json total n j plan clear only is (accepted refl)
 
--- so are the want of memory of the plan and of the keyslot
+-- so are the failed allocation of the plan and of the keyslot
 pub plan_takes2 : (allowed : Allowed) (b json : List ℕ) (total n : ℕ) (j : Data) (plan : SlotPlan) → IsCleared (uuid_field b) json j → IsOnly json j n
     → HasLuks2Plan json n plan → PlanTakesMemory allowed plan total → Luks2TakesMemory allowed b json total n
 plan_takes2 allowed b json total n j plan clear only is x =

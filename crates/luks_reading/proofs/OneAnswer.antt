@@ -93,7 +93,7 @@ own_agrees : (f : OpenFault) (a : Opened) → IsOwn f → IsSameAnswer a (refuse
 own_agrees f (refused g) own e = own.same g e
 own_agrees f other own e = absurd e
 
--- the device's failure and want of memory agree with each answer
+-- the device's failure and a failed allocation agree with each answer
 device_agrees : (a : Opened) → Agrees a (Err Device)
 device_agrees (opens k) = tt
 device_agrees no_key = tt

@@ -34,7 +34,7 @@ outside_refuses uuid json Device x clear = tt
 outside_refuses uuid json Memory x clear = clear
 outside_refuses uuid json other x clear = absurd x
 
--- ---- a head fault that is neither the device's nor want of memory stays what it is
+-- ---- a head fault that is neither the device's nor a failed allocation stays what it is
 
 pub own_head : (f : HeadFault) → f ≢ head.Device → f ≢ head.Memory → head_unread f ≡ Head f
 own_head head.Device no_device no_memory = absurd (no_device refl)
@@ -129,6 +129,6 @@ no_metadata v (inl luks1_counts) needs =
 no_metadata v (inr (f, fault)) needs =
     needs.uuid f (subst (λ d. IsReadFaultAs v d (Head f)) (choices_agree v fault.choice (luks2 needs.place needs.copies) fault.chosen needs.chosen) fault.fault)
 
--- so a header isn't read for want of memory there
+-- so a header isn't read for a failed allocation there
 pub not_for_memory : (v : List ℕ) (f : ReadFault) → TakesNoMemory v → IsUnread v f → f ≢ Memory
 not_for_memory v f none unread is = no_metadata v none (subst (IsUnread v) is unread)

@@ -193,7 +193,7 @@ luks2_unlocks allowed v p o copies j found chosen clear x = record {
 
 -- ---- a failed device
 
--- the device's failure and want of memory lock no volume by a fault of its own
+-- the device's failure and a failed allocation lock no volume by a fault of its own
 pub device_locks : (v : List ℕ) (f : OpenFault) → NeedsMetadata v → IsOfDevice f → IsVolumeRefusedBy v f
 device_locks v Device needs x = tt
 device_locks v Memory needs x = needs

@@ -1,4 +1,4 @@
--- What a fault becomes in an outer fault type: the device's failure and want of memory stand for themselves.
+-- What a fault becomes in an outer fault type: the device's failure and a failed allocation stand for themselves.
 use Rattle.luks1_header.specs.declared.fault.HeadFault.{HeadFault}
 use Rattle.luks1_header.specs.declared.fault.HeadFault.TheVariants as head
 use Rattle.luks_rules.specs.declared.fault.MetaFault.{MetaFault}

@@ -167,7 +167,7 @@ is_key_failure Hash = false
 is_key_failure Device = true
 is_key_failure Memory = false
 
--- the fault is neither the device's nor want of memory
+-- the fault is neither the device's nor a failed allocation
 abbrev pub is_own_key_fault : KeyFault → Bool
 is_own_key_fault Device = false
 is_own_key_fault Memory = false

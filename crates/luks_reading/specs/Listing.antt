@@ -16,7 +16,7 @@ pub record Lists (entries : List Entry) (areas : AreaName → Area → Type 0) :
   pub only : (n : AreaName) (a : Area) → HasArea entries n a → areas n a
   pub all : (n : AreaName) (a : Area) → areas n a → HasArea entries n a
 
--- the list has the areas of the set whose names stand before `bound`, and no others
+-- the list has the areas of the set whose names come before `bound`, and no others
 pub record ListsBelow (entries : List Entry) (areas : AreaName → Area → Type 0) (bound : AreaName) : Type 0 where
   pub below : (n : AreaName) (a : Area) → HasArea entries n a → IsBefore n bound
   pub only : (n : AreaName) (a : Area) → HasArea entries n a → areas n a

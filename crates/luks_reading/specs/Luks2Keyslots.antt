@@ -12,7 +12,7 @@ use Rattle.luks_reading.specs.Answer.{open_key, IsLuks2RefusalWithin}
 use Rattle.luks_reading.specs.Failures.{is_own}
 use Rattle.luks_reading.specs.Plans.{HasLuks2Plan}
 
--- Where so much is allowed, by the copy with the binary header `b` and the JSON area
+-- If so much is allowed, by the copy with the binary header `b` and the JSON area
 -- `json` in a volume of `total` bytes:
 
 -- nothing refuses the keyslot `n`, and it derives by Argon2

@@ -12,7 +12,7 @@ use std::fmt;
 /// Why a volume isn't accepted.
 ///
 /// The faults of the header come first, then those of the metadata, then those of the areas. The
-/// device's failure and want of memory are answered as such, wherever they were met.
+/// device's failure and a failed allocation are answered as such, wherever they were met.
 #[derive(Debug, Clone, Copy, Drop)]
 pub enum CheckFault {
     /// The header breaks a rule.

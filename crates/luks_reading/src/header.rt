@@ -24,7 +24,7 @@ const LEAST_HEADER: u64 = 0x4000;
 /// The LUKS2 copy that counts.
 #[derive(Drop)]
 pub struct ChosenCopy {
-    /// Its binary header. The copy stands at `header.hdr_offset`.
+    /// Its binary header. The copy is at `header.hdr_offset`.
     pub header: Bin2,
     /// How the two copies stand to each other.
     pub copies: Copies,

@@ -8,7 +8,7 @@ use luks2_header::HeadFault;
 use std::error::Error;
 use std::fmt;
 
-/// Why it isn't told whether a key is a volume's; the first in this order is answered, but for the
+/// Why it isn't told whether a key is a volume's; the first in this order is answered, except for the
 /// device and memory, which are answered as such, wherever they were met.
 #[derive(Debug, Clone, Copy, Drop)]
 pub enum KeyFault {

@@ -61,7 +61,7 @@ pub fn one_unlocking()
         → UnlockAnswer allowed v p b → IsSameUnlocking a b }
 {}
 
-/// Where nothing is allowed, the plan of a keyslot is refused exactly as it is without Argon2 and
+/// If nothing is allowed, the plan of a keyslot is refused exactly as it is without Argon2 and
 /// without older ciphers and hashes: of LUKS2 `Argon2` stands exactly where it derives by that. What
 /// opens then is refused by none of these. No keyslot takes memory where none is allowed.
 pub fn nothing_allowed_is_as_before()

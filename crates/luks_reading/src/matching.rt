@@ -38,7 +38,7 @@ pub struct KeyMatch {
 /// volume key: of LUKS1 the one that there is, of LUKS2 the one that is assigned to segment 0 (LUKS1
 /// On-Disk Format 1.2.3, 4.3; LUKS2 On-Disk Format 1.1, 3.4 and 3.5).
 ///
-/// The first refusal is answered: `Head` and `Meta` as of `open_slot`, but for keyslots,
+/// The first refusal is answered: `Head` and `Meta` as of `open_slot`, except for keyslots,
 /// `NoSuchDigest`, `KeyLength` and `Hash`; older hashes are refused where `older` isn't set. `Device`
 /// comes exactly where a device call failed. Memory is taken for the metadata of LUKS2 alone.
 pub fn match_key<D: Device>(
@@ -296,7 +296,7 @@ fn is_met(digest: &DigestPlan<'_>, hash: KeyslotHash, key: &[u8]) -> bool
     is_met_in(&mut buffer[..digest.stored.len()], digest, hash, key)
 }
 
-/// The same, with room for what is to be compared.
+/// Whether the key meets the digest, with room for what is to be compared.
 fn is_met_in(room: &mut [u8], digest: &DigestPlan<'_>, hash: KeyslotHash, key: &[u8]) -> bool
     requires hash { hash_by_name digest.now.hash.now ≡ hash }
     requires iterations { 1 ≤ digest.now.iterations }

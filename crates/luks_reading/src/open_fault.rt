@@ -9,10 +9,10 @@ use luks2_header::HeadFault;
 use std::error::Error;
 use std::fmt;
 
-/// Why a keyslot isn't opened; the first in this order is answered, but for the device and memory.
+/// Why a keyslot isn't opened; the first in this order is answered, except for the device and memory.
 ///
-/// Of a LUKS1 header, the faults of the fields before the keyslots stand before `NoSuchSlot`, and
-/// those of the keyslot's own entry after it. The device's failure and want of memory are answered
+/// Of a LUKS1 header, the faults of the fields before the keyslots come before `NoSuchSlot`, and
+/// those of the keyslot's own entry after it. The device's failure and a failed allocation are answered
 /// as such, wherever they were met.
 #[derive(Debug, Clone, Copy, Drop)]
 pub enum OpenFault {

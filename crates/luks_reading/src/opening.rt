@@ -176,7 +176,7 @@ fn open_luks1<D: Device>(
     )
 }
 
-/// What opening the keyslot `n` gives where nothing is wrong with what stands before the keyslots.
+/// What opening the keyslot `n` gives where nothing is wrong with what precedes the keyslots.
 pub(crate) fn open_luks1_slot<D: Device>(
     alloc: Global,
     device: &mut D,

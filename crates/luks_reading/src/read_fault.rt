@@ -12,7 +12,7 @@ use std::fmt;
 /// Why the header that counts isn't read.
 ///
 /// The faults of the selection and of the chosen copy's uuid come first, then those of its
-/// metadata. The device's failure and want of memory are answered as such, wherever they were met.
+/// metadata. The device's failure and a failed allocation are answered as such, wherever they were met.
 #[derive(Debug, Clone, Copy, Drop)]
 pub enum ReadFault {
     /// Nothing counts, or the uuid of the chosen copy breaks a rule.

@@ -16,7 +16,7 @@ magic_long o = elim (cases_Bool (o == 0)) [
   | inr other ↦ ap (λ (b : Bool). length (if b then luks_magic else second_magic)) other
 ]
 
--- the fields behind the magic are those that stand there
+-- the fields behind the magic are those that are there
 pub mended_part : (v : List ℕ) (o i n : ℕ) → 6 ≤ i → part (mended_header v o) i n ≡ part (header_at v o) i n
 mended_part v o i n past =
     let h : List ℕ = header_at v o in
@@ -27,6 +27,6 @@ mended_part v o i n past =
     ∙ ap (take n) (drop-append-add (magic_of o) (drop 6 h) (i - 6))
     ∙ ap (take n) (drop-drop (i - 6) 6 h) ∙ ap (λ k. take n (drop k h)) back
 
--- the sequence number stands behind it
+-- the sequence number follows it
 pub mended_seqid : (v : List ℕ) (o : ℕ) (h : Bin2) → HoldsBin2 (mended_header v o) h → h.seqid ≡ seqid (header_at v o)
 mended_seqid v o h holds = sym holds.seqid ∙ ap (big_number 8) (mended_part v o 16 8 (omega arith))

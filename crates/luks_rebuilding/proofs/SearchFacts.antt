@@ -29,7 +29,7 @@ memory_so A B so fault.Memory x = so x
 memory_so A B so fault.Device x = tt
 memory_so A B so f x = absurd x
 
--- a text that stands in the JSON area begins with a brace
+-- a text that is in the JSON area begins with a brace
 text_begins : (v text : List ℕ) (place : Place) → IsListed place.size → JsonText (json_of v place) text → part v (place.at + 4096) 1 ≡ codes "{"
 text_begins v text place listed x =
     let large = listed_at_least place.size listed in
@@ -146,7 +146,7 @@ module _ (v : List ℕ) where
   abbrev NoneLess : Half → ℕ → Type 0
   NoneLess half size = (p : ℕ) → IsListed p → IsWholeAt v (place_of half p) → size ≤ p
 
-  -- then no candidate stands before the first copy of this size
+  -- then no candidate comes before the first copy of this size
   first_least_of : (q : Place) → q.at ≡ 0 → NoneLess First q.size → (g : Place) → IsCandidate v ask.Any g → NotAfter (place_key q) (place_key g)
   first_least_of q zero least g is = elim (as_half ask.Any g is) [
     | inl first ↦ (

@@ -13,7 +13,7 @@ use Rattle.luks_rebuilding.specs.declared.place.Copies.TheVariants as ask
 use Rattle.luks_rebuilding.specs.declared.rebuild_fault.RebuildFault.{RebuildFault}
 use Rattle.luks_rebuilding.proofs.SearchFacts.{key_first, key_second, memory_so, place_not_after}
 
--- a second copy doesn't stand at the start
+-- a second copy doesn't are at the start
 second_apart : (size : ℕ) → IsListed size → size ≢ 0
 second_apart size listed e = let large = listed_at_least size listed in omega (arith, large, e)
 
@@ -38,7 +38,7 @@ module _ (v : List ℕ) (size : ℕ) where
       second_eta : (q : Place) → q.at ≡ q.size → q.size ≡ size → q ≡ place_of Second size
       second_eta q at long = ap (λ o. let r : Place = record { size = q.size; at = o } in r) at ∙ ap (λ n. let r : Place = record { size = n; at = n } in r) long
 
-  -- no candidate of this size stands before the first copy
+  -- no candidate of this size comes before the first copy
   first_of_size : (g : Place) → IsCandidate v (ask.OfSize size) g → NotAfter (place_key (place_of First size)) (place_key g)
   first_of_size g is = elim (as_copy (ask.OfSize size) (λ q x. x.asked) g is) [
     | inl first ↦

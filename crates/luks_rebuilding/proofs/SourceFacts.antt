@@ -18,7 +18,7 @@ use Rattle.luks_rebuilding.specs.declared.place.Which.{Which}
 
 -- ---- keys
 
--- keys neither of which stands before the other are the same
+-- keys neither of which comes before the other are the same
 pub same_keys : (xs ys : List ℕ) → NotAfter xs ys → NotAfter ys xs → xs ≡ ys
 same_keys [] [] le ge = refl
 same_keys [] (y ∷ ys) le ge = absurd ge
@@ -49,7 +49,7 @@ no_source v which none missing s x = elim x [
 
 -- ---- the first
 
--- those that are vouched for stand before all others
+-- those that are vouched for come before all others
 pub vouched_before : (a b : Source) → a.vouched ≡ true → b.vouched ≡ false → NotAfter (source_key a) (source_key b)
 vouched_before a b p q = not_after_as (source_key a) (source_key b) _ _ (key_vouched a p) (key_plain b q) (omega arith, λ e. absurd (omega (arith, e)))
 
@@ -142,7 +142,7 @@ module _ (v : List ℕ) (which : Which) (a b : Source) where
       let place : place_of_source a ≡ place_of_source b = ap (λ n. let r : Place = record { size = n; at = a.at } in r) size ∙ ap (λ o. let r : Place = record { size = b.size; at = o } in r) at in
       same_source a b size at (x.json ∙ ap (json_of v) place ∙ sym y.json) (p ∙ sym q) (x.number ∙ sym y.number) (x.seqid ∙ sym y.seqid) (x.label ∙ sym y.label) (x.subsystem ∙ sym y.subsystem)
 
--- of two sources neither of which stands before the other
+-- of two sources neither of which comes before the other
 pub one_source : (v : List ℕ) (which : Which) (a b : Source) → Taken v which a → Taken v which b → a ≡ b
 one_source v which a b x y =
     let keys : source_key a ≡ source_key b = same_keys (source_key a) (source_key b) (x.1 b y.0) (y.1 a x.0) in

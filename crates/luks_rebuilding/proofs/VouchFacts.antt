@@ -30,7 +30,7 @@ module _ (v : List ℕ) (Is : Place → Type 0) where
     | inr of ↦ of
   ]
 
-  -- the first that was left stands before each
+  -- the first that was left comes before each
   pub left_first : (old new : List Standing) (x : Standing) → TakesFirst old x new → x ≡ standing v x.place → AreLeft old
       → (place : Place) → Is place → NotAfter (copy_key v x.place) (copy_key v place)
   left_first old new x taken told left place is =

@@ -1,4 +1,4 @@
--- Where metadata of a LUKS2 header is still whole in a volume, whatever stands before it (LUKS2
+-- The places where metadata of a LUKS2 header is still whole in a volume, whatever comes before it (LUKS2
 -- On-Disk Format 1.1, 2.1 and 3).
 use Rattle.std.specs.Prelude.{◌≡◌, ◌≢◌, ◌⊎◌, ℕ, ◌+◌, ◌-◌, ◌≤◌, ◌==◌, List, [], ◌∷◌, Bool, codes, length, min, replicate, if◌then◌else◌, true, false, ⊤}
 use Rattle.luks_area.specs.First.{IsLeast, NotAfter}
@@ -110,7 +110,7 @@ pub record IsBegun (v : List ℕ) (place : Place) : Type 0 where
   pub is_place : IsPlace (length v) place
   pub brace : part v (place.at + 4096) 1 ≡ codes "{"
 
--- such a copy is asked for, and no candidate stands before it: its text has to be read, in memory
+-- such a copy is asked for, and no candidate comes before it: its text has to be read, in memory
 pub record HasToBeRead (v : List ℕ) (copies : Copies) (place : Place) : Type 0 where
   pub begun : IsBegun v place
   pub asked : IsAsked copies place

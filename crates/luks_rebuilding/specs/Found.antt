@@ -168,7 +168,7 @@ abbrev pub FindsAt : List ℕ → Place → Option Candidate → Type 0
 FindsAt v place None = IsWholeAt v place → ⊥
 FindsAt v place (Some c) = IsWholeAt v place × (c.json.items ≡ json_of v place)
 
--- the candidate stands at the least size of its half
+-- the candidate is at the least size of its half
 pub record IsLeastOf (v : List ℕ) (half : Half) (c : Candidate) : Type 0 where
   pub is : c.place ≡ place_of half c.place.size
   pub whole : IsWholeAt v c.place
@@ -215,7 +215,7 @@ BreaksHalf v half = IsMemoryWhere ((size : ℕ) × IsBegunOf v half size)
 abbrev pub BreaksFirst : List ℕ → Copies → RebuildFault → Type 0
 BreaksFirst v which = IsMemoryWhere ((place : Place) × HasToBeRead v which place)
 
--- no metadata was read of a JSON area: it isn't accepted, or memory was refused where a text stands in it
+-- no metadata was read of a JSON area: it isn't accepted, or memory was refused where a text is in it
 abbrev pub IsNoMeta : List ℕ → RebuildFault → Type 0
 IsNoMeta json fault.NoMetadata = HasMetaFault json
 IsNoMeta json fault.Memory = (text : List ℕ) × JsonText json text

@@ -46,7 +46,7 @@ IsMakingFault v source given total random Device = ⊥
 pub record IsMakeable (v : List ℕ) (source : Source) (given : Option (List ℕ)) (total : ℕ) (random : List ℕ) : Type 0 where
   pub none : (f : RebuildFault) → IsMakingFault v source given total random f → ⊥
 
--- the answer is the first of the faults; or memory was refused, where a text stands in the JSON area; or a device failed
+-- the answer is the first of the faults; or memory was refused, where a text is in the JSON area; or a device failed
 abbrev pub IsAnsweredMaking : List ℕ → Source → Option (List ℕ) → ℕ → List ℕ → RebuildFault → Type 0
 IsAnsweredMaking v source given total random Memory = (text : List ℕ) × JsonText source.json text
 IsAnsweredMaking v source given total random Device = ⊤

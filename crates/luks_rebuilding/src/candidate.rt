@@ -31,7 +31,7 @@ pub struct Candidate {
 
 /// The metadata of which `rebuild` makes a header, of a volume of which no header counts: that for which
 /// the checksum of a copy vouches, the newest first; else the first that is whole, of the copies that
-/// are asked for. Where the second copy or a size is asked for, a header may count.
+/// are asked for. If the second copy or a size is asked for, a header may count.
 ///
 /// Refused by `Counts` or `NoMetadata`; `Device` comes exactly where a device call failed. Takes
 /// memory for the JSON areas and the metadata of one copy at a time, where a copy's binary header stands or its

@@ -12,10 +12,10 @@ use luks_area::{Device, DeviceFault};
 use luks_writing::write_copy;
 use luks2_header::Bin2;
 
-/// Where the salt of the first copy stands among the random bytes.
+/// The place of the salt of the first copy among the random bytes.
 pub(crate) const FIRST_SALT: usize = 0;
 
-/// Where the salt of the second copy stands.
+/// The place of the salt of the second copy.
 pub(crate) const SECOND_SALT: usize = 64;
 
 /// The salt at this place of the random bytes.

@@ -32,7 +32,7 @@ pub fn search_is_bounded()
 
 /// The header that is made of the metadata at a place is well formed where the payload is elsewhere;
 /// and each of its keyslots answers by each passphrase, whatever is allowed, as the metadata's
-/// equations give of the bytes where its key areas stand in the source.
+/// equations give of the bytes where its key areas are in the source.
 pub fn rebuilt_header_opens_alike()
     ensures well_formed { (v random old w : List ℕ) (given : Option (List ℕ))
         (source : Source) (j : Value) → IsMeta source.json j → IsMade v given random old w source

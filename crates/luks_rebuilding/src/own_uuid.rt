@@ -11,7 +11,7 @@ use crate::place::{Place, other_at};
 use luks_area::{Device, DeviceFault};
 use luks2_header::{Bin2, uuid_field, uuid_text};
 
-/// Where the bytes of a new uuid stand among the random bytes.
+/// The place of the bytes of a new uuid among the random bytes.
 const UUID: usize = 128;
 
 /// The uuid field of the new header: the uuid that is given, else that of the source's binary headers.

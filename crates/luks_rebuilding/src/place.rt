@@ -73,7 +73,7 @@ pub(crate) fn is_inside(place: Place, total: u64) -> bool
     place.size <= total && place.at <= total - place.size
 }
 
-/// Where the other copy of the same header stands.
+/// The place of the other copy of the same header.
 pub(crate) fn other_at(place: Place) -> u64
     ensures { result ≡ other_at place.size place.at }
 {

@@ -6,7 +6,7 @@ use std::alloc::AllocError;
 use std::error::Error;
 use std::fmt;
 
-/// Why no header is made of a volume's metadata: the first in this order, but for want of memory and
+/// Why no header is made of a volume's metadata: the first in this order, except for a failed allocation and
 /// a device's failure.
 ///
 /// All but a device's failure leave every byte of the target as it was. None changes the source.

@@ -70,7 +70,7 @@ pub fn rebuild<S: Device, T: Device, P: SearchProgress>(
     ensures size { T.size target.new ≡ T.size target.old }
     ensures settled { T.tells → OnOk result (IsSettled T.unsettled target.new) }
 
-    // The first fault that stands, or want of memory, and then nothing of the target changed.
+    // The first fault that stands, or a failed allocation, and then nothing of the target changed.
     ensures fault { S.tells → IfErr result (IsAnsweredFault (S.bytes source.old) which
         (option_map (λ t. t.now) uuid.entry) (T.size target.old) random.now) }
     ensures faultless { S.tells → OnOk result (IsRebuildable (S.bytes source.old) which
@@ -138,7 +138,7 @@ pub fn rebuild_from<S: Device, T: Device>(
     ensures size { T.size target.new ≡ T.size target.old }
     ensures settled { T.tells → OnOk result (IsSettled T.unsettled target.new) }
 
-    // The first fault that stands, or want of memory, and then nothing of the target changed.
+    // The first fault that stands, or a failed allocation, and then nothing of the target changed.
     ensures fault { S.tells → IfErr result (IsAnsweredMaking (S.bytes source.old)
         (source_with json.items place) (option_map (λ t. t.now) uuid.entry) (T.size target.old)
         random.now) }

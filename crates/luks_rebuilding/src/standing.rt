@@ -194,7 +194,7 @@ fn first_of(left: &[Standing]) -> usize
     first
 }
 
-/// Whether the one copy stands before the other: by the higher sequence number, or else by its place.
+/// Whether the one copy comes before the other: by the higher sequence number, or else by its place.
 fn is_before(a: &Standing, b: &Standing) -> bool
     ensures before { result ≡ true → NotAfter (standing_key a.now) (standing_key b.now) }
     ensures behind { result ≡ false → NotAfter (standing_key b.now) (standing_key a.now) }

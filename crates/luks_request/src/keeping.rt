@@ -7,7 +7,7 @@ use luks_reading::Data;
 pub struct BackingUp<'a> {
     /// The file that the backup is written to.
     pub target: &'a str,
-    /// Where the volume's payload lies.
+    /// The place of the volume's payload.
     pub payload: Data,
     /// Whether it may write over a file that is there and isn't empty.
     pub over: bool,
@@ -20,7 +20,7 @@ pub struct BackingUp<'a> {
 pub struct Restoring<'a> {
     /// The file of the backup.
     pub backup: &'a str,
-    /// Where the volume's payload lies.
+    /// The place of the volume's payload.
     pub payload: Data,
     /// Whether it may write over the header of another volume.
     pub other: bool,
@@ -35,7 +35,7 @@ pub struct Restoring<'a> {
 pub struct Comparing<'a> {
     /// The file of the backup.
     pub backup: &'a str,
-    /// Where the volume's payload lies.
+    /// The place of the volume's payload.
     pub payload: Data,
 }
 

@@ -26,7 +26,7 @@ pub struct Rebuilding<'a> {
     /// What else is given of a LUKS1 header; where a data sector's size is given, the cipher and the payload are
     /// those of a LUKS2 segment.
     pub luks1: Luks1Fields<'a>,
-    /// How long a data sector of a LUKS2 header's segment is, in bytes, where none stands whole.
+    /// How long a data sector of a LUKS2 header's segment is, in bytes, where none is whole.
     pub sector_size: Option<u32>,
     /// Whether it may write over another volume's header, and over another use of the target.
     pub over: bool,

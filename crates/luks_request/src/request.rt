@@ -112,7 +112,7 @@ pub struct Editing<'a> {
 /// What an edit does. Its passphrases are named by their files.
 ///
 /// The keyslot that an edit names as `by_`, or else as `slot`, 0 to 31, is the one that the passphrase or
-/// the key in the file `opener` opens. Where it names none, that is the first that the passphrase opens, of
+/// the key in the file `opener` opens. If it names none, that is the first that the passphrase opens, of
 /// those that `open` tries and in its order.
 #[derive(Debug, Clone, Copy)]
 pub enum EditRequest<'a> {
@@ -327,7 +327,7 @@ pub struct Converting<'a> {
     pub target: &'a str,
     /// The file of the random bytes.
     pub random: &'a str,
-    /// Where the volume's payload lies.
+    /// The place of the volume's payload.
     pub payload: Data,
     /// Whether it may write over another volume's header, and over another use of the target.
     pub over: bool,

@@ -21,7 +21,7 @@ moved_up x k j =
     ap (λ (n : ℕ). n * 2 ^ j) (sym (shr_split x k)) ∙ omega (arith, ap (λ (n : ℕ). upper * n) (pow-add 2 k j)) in
     ap (λ (n : ℕ). n % 2 ^ (k + j)) parts ∙ mod-mul-add upper (2 ^ (k + j)) (lower * 2 ^ j) (shl_below lower k j (mod-lt x (pow_pos k)))
 
--- the lower part stands above the upper one
+-- the lower part is above the upper one
 pub rotated_parts : (w x k : ℕ) → k ≤ w → x < 2 ^ w → rotated w x k ≡ x % 2 ^ k * 2 ^ (w - k) + x / 2 ^ k
 rotated_parts w x k le fits =
     let bits : w ≡ k + (w - k) = omega arith in

@@ -1,4 +1,4 @@
--- The order of texts by their bytes, and that the rows, the numbers and the sections stand in it.
+-- The order of texts by their bytes, and that the rows, the numbers and the sections are in it.
 use Rattle.std.proofs.Common.{◌≡◌, ℕ, ◌<◌, ◌≤◌, Bool, true, false, ◌&&◌, List, [], ◌∷◌, ◌++◌, refl, arith, inl, inr}
 use Rattle.std.specs.Prelude.{◌||◌, ◌==◌, nat_lt}
 use Rattle.std.specs.List.{list_all}

@@ -1,4 +1,4 @@
--- The faults of a value that is to stand in an area, from those of its members and its nesting.
+-- The faults of a value that is to be in an area, from those of its members and its nesting.
 use Rattle.std.proofs.Common.{◌≡◌, ◌↔◌, Bool, true, false, ◌<◌, ◌≤◌, ℕ, ◌∷◌, [], Result, Ok, Err, OnOk, IfErr, sym, ◌∙◌, inl, inr, arith}
 use Rattle.std.proofs.lemmas.Bool.{cases_lt, true≢false}
 use Rattle.serde_json.specs.Data.{Data, depth}

@@ -39,7 +39,7 @@ pub record HasNames (j : Data) (s : Section) (target : Section) (list : Items) :
   pub speaks : row.rule ≡ rule.Names target
   pub is : option_and_then as_array (value_at object row) ≡ Some list
 
--- each name in an array is that of an object that is there, and stands in it once; exactly one
+-- each name in an array is that of an object that is there, and is in it once; exactly one
 -- digest names each keyslot and each `crypt` segment
 pub record Resolves (j : Data) : Type 0 where
   pub there : (s target : Section) (list : Items) → HasNames j s target list → all_there (section_at j target) list ≡ true

@@ -57,7 +57,7 @@ suits when.Pbkdf2 t = option_map_or (λ k. bytes_eq k (codes "pbkdf2")) t false
 suits when.Argon2 t = option_map_or (λ k. bytes_eq k (codes "argon2i") || bytes_eq k (codes "argon2id")) t false
 suits when.Crypt t = option_map_or (λ k. bytes_eq k (codes "crypt")) t false
 
--- the object that the member stands in is there, and of a type that has the member
+-- the object that the member is in is there, and of a type that has the member
 abbrev pub is_judged : Data → Row → Bool
 is_judged d r = is_some (option_and_then as_object (outer_at d r.outer)) && suits r.when (type_at d r.outer)
 
@@ -151,7 +151,7 @@ object_fault test.Kind j s n d = false
 object_fault test.NoSuchName j s n d = false
 object_fault test.Assigned j s n d = has_no_digest j s n d
 
--- the section is an object, and but for `config` the name of each member is a name
+-- the section is an object, and except for `config` the name of each member is a name
 abbrev pub is_section : Section → Option Data → Bool
 is_section Config v = is_some (option_and_then as_object v)
 is_section Digests v = option_map_or all_named (option_and_then as_object v) false

@@ -103,7 +103,7 @@ fault_of test.Kind path = fault.Kind path
 fault_of test.NoSuchName path = fault.NoSuchName path
 fault_of test.Assigned path = fault.Assigned path
 
--- no test finds a fault in a value that stands in an area of `len` bytes
+-- no test finds a fault in a value that is in an area of `len` bytes
 pub record IsFaultless (len : ℕ) (j : Data) : Type 0 where
   pub whole : has_float j ≡ false
   pub places : (t : Test) (p : Place) → IsPlace p → has_fault t j p ≡ false

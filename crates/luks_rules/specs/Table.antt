@@ -1,5 +1,5 @@
 -- The members of the metadata (LUKS2 On-Disk Format 1.1, 3), one row for each: where it stands,
--- its name, what its value has to be, and when it is judged. The rows stand in the order of the
+-- its name, what its value has to be, and when it is judged. The rows are in the order of the
 -- bytes of their paths. A path joins names with points, as in `keyslots.0.kdf.type`.
 use Rattle.std.specs.Prelude.{ℕ, List, [], ◌∷◌, codes}
 use Rattle.luks_rules.specs.declared.table.Section.{Section}
@@ -23,7 +23,7 @@ member n r = record { outer = outer.Top; name = n; rule = r; when = when.Always 
 abbrev pub inside : Outer → Member → Rule → Row
 inside o n r = record { outer = o; name = n; rule = r; when = when.Always }
 
--- judged where the type of the object that it stands in is so
+-- judged where the type of the object that it is in is so
 abbrev pub only : When → Row → Row
 only w r = record r { when = w }
 

@@ -1,4 +1,4 @@
--- The faults of a value that is to stand in an area: those of its members, and that it nests deeper than
+-- The faults of a value that is to be in an area: those of its members, and that it nests deeper than
 -- a text may that is read.
 use Rattle.std.specs.Prelude.{ℕ, ◌<◌}
 use Rattle.serde_json.specs.Data.{Data, depth}

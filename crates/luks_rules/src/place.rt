@@ -3,7 +3,7 @@
 use crate::table::{Row, Section};
 use serde_json::Value;
 
-/// A value, and the length in bytes of the JSON area that it stands in.
+/// A value, and the length in bytes of the JSON area that it is in.
 #[derive(Clone, Copy)]
 pub(crate) struct Content<'a> {
     pub len: usize,

@@ -18,7 +18,7 @@ pub enum Section {
     Tokens,
 }
 
-/// The object that a member stands in: the named object itself, or an object inside it.
+/// The object that a member is in: the named object itself, or an object inside it.
 #[derive(Clone, Copy)]
 pub enum Outer {
     /// The named object itself.
@@ -124,7 +124,7 @@ pub enum Rule {
     Names(Section),
 }
 
-/// When a row is judged, by the type of the object that the member stands in.
+/// When a row is judged, by the type of the object that the member is in.
 #[derive(Clone, Copy)]
 pub enum When {
     /// Whatever its type.
@@ -140,7 +140,7 @@ pub enum When {
 /// One row: a member, its rule, and when it is judged.
 #[derive(Clone, Copy)]
 pub struct Row {
-    /// The object that the member stands in.
+    /// The object that the member is in.
     pub outer: Outer,
     /// The member's name.
     pub name: Member,

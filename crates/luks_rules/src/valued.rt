@@ -1,4 +1,4 @@
-//! The first fault of a value that is to stand in a JSON area.
+//! The first fault of a value that is to be in a JSON area.
 
 ghost use Rattle.std.specs.Prelude.{IfErr, OnOk};
 ghost use Rattle.serde_json.specs.View.{view};
@@ -13,7 +13,7 @@ use crate::nesting::nests_within;
 use crate::place::Content;
 use serde_json::Value;
 
-/// The first fault of a value that is to stand in an area of `len` bytes. One that nests deeper than 127
+/// The first fault of a value that is to be in an area of `len` bytes. One that nests deeper than 127
 /// levels is `BadJson`, since its text isn't read.
 #[tactic(auto, using(crate::proofs::ValueFacts::above, crate::proofs::ValueFacts::deep_least, crate::proofs::ValueFacts::judged_held, crate::proofs::ValueFacts::judged_fault, crate::proofs::ValueFacts::judged_only))]
 pub fn judge_value(len: usize, value: &Value) -> Result<(), MetaFault>

@@ -23,14 +23,14 @@ pub record IsBitTurned (h : List ℕ) (n place bit : ℕ) (new : List ℕ) : Typ
 abbrev pub few_bits : ℕ
 few_bits = 8
 
--- the header is `h` but for its digest, the 20 bytes at 112, which differs in so many bits, 1 to 8
+-- the header is `h` except for its digest, the 20 bytes at 112, which differs in so many bits, 1 to 8
 pub record IsDigestChanged (h : List ℕ) (bits : ℕ) (new : List ℕ) : Type 0 where
   pub some : 1 ≤ bits
   pub few : bits ≤ few_bits
   pub rest : SameBut (IsAt 112 20) h new
   pub differ : differing_bits (mk_digest_of new) (mk_digest_of h) ≡ bits
 
--- the header is `h` but for the change, for the keyslot `n`
+-- the header is `h` except for the change, for the keyslot `n`
 abbrev pub IsChanged1 : List ℕ → ℕ → Change1 → List ℕ → Type 0
 IsChanged1 h n Nothing new = new ≡ h
 IsChanged1 h n (Bit place bit) new = IsBitTurned h n place bit new
@@ -66,7 +66,7 @@ HasNone1 v g p = HasNoneOf v (header_of v) g p
 
 -- ---- of a digest that a keyslot gives: words of private contracts
 
--- the header that was found has this digest, and is `h` but for that
+-- the header that was found has this digest, and is `h` except for that
 pub record HasDigestOf (h digest : List ℕ) (n : ℕ) (f : Found1) : Type 0 where
   pub slot : f.slot ≡ n
   pub changed : IsChanged1 h n f.change f.header

@@ -9,7 +9,7 @@ use crate::searching1::{Change1, Found1};
 use luks_trials::differing_bits;
 use luks1_header::fields::put;
 
-/// Where the digest stands, in bytes from the header's start.
+/// The place of the digest, in bytes from the header's start.
 const DIGEST: usize = 112;
 
 /// A digest is taken for the key's where it differs in no more bits.

@@ -4,7 +4,7 @@ ghost use Rattle.luks_area.specs.Ranges.{IsAt, SameBut};
 ghost use Rattle.luks1_header.specs.Header1.{mk_digest_of};
 ghost use Rattle.luks_searching.specs.Found1.{IsBitTurned, IsDigestChanged};
 
-/// Where one bit of a field was turned, the digest is the one that stood there: the key that opens meets it. Where the
+/// If one bit of a field was turned, the digest is the one that the source has: the key that opens meets it. If the
 /// digest was changed, nothing else was.
 pub fn digest_stood()
     ensures bit { (h new : List ℕ) (n place bit : ℕ) → IsBitTurned h n place bit new

@@ -15,7 +15,7 @@ use luks_trials::{Progress, SearchFault, Tally};
 use luks1_mending::Given;
 use std::alloc::Global;
 
-/// What isn't as it stands in a header that was found.
+/// What isn't as it is in a header that was found.
 #[derive(Debug, Clone, Copy, PartialEq, Eq)]
 pub enum Change1 {
     /// Nothing: a keyslot opens by what stands.
@@ -115,7 +115,7 @@ fn as_it_stands<D: Device, P: Progress>(
     Ok(None)
 }
 
-/// The same of the keyslot `n`.
+/// Tries the keyslot `n` unchanged.
 fn slot_as_it_stands<D: Device, P: Progress>(
     alloc: Global,
     source: &mut D,
@@ -183,7 +183,7 @@ fn by_fields<D: Device, P: Progress>(
     Ok(None)
 }
 
-/// The same of one field, for each keyslot.
+/// Turns the bits of one field, for each keyslot.
 fn by_field<D: Device, P: Progress>(
     alloc: Global,
     source: &mut D,

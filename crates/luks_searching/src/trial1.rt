@@ -56,7 +56,7 @@ pub(crate) fn distance<D: Device, P: Progress>(
     }
 }
 
-/// The same of this header, that was made of them.
+/// The distance by this header, which was made of them.
 fn distance_of<D: Device, P: Progress>(
     alloc: Global,
     source: &mut D,
@@ -126,7 +126,7 @@ pub(crate) fn given_digest<D: Device, P: Progress>(
     }
 }
 
-/// The same of this header, that was made of them.
+/// The digest by this header, which was made of them.
 fn digest_of<D: Device, P: Progress>(
     alloc: Global,
     source: &mut D,

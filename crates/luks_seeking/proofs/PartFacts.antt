@@ -81,7 +81,7 @@ module _ (v : List ℕ) (at len : ℕ) (inside : at + len ≤ length v) where
         };
       }
 
-  -- the name of an object whose name stands in the part
+  -- the name of an object whose name is in the part
   name_up : (s n : ℕ) → s ≤ len → IsNamedAt (part v at len) s n → IsNamedAt v (at + s) n
   name_up s n inside_part x = record {
     low = x.low;
@@ -101,7 +101,7 @@ module _ (v : List ℕ) (at len : ℕ) (inside : at + len ≤ length v) where
             ∙ ap (λ p. part v p (length (quoted n))) there ∙ x.is;
       }
 
-  -- the name is the same, where all of it stands in the part
+  -- the name is the same, where all of it is in the part
   pub has_name : (s : ℕ) (number : Option ℕ) → s ≤ len → (at ≡ 0) ⊎ (5 ≤ s) → HasName (part v at len) s number → HasName v (at + s) number
   has_name s (Some n) inside_part before x = name_up s n inside_part x
   has_name s None inside_part before x = λ n y.

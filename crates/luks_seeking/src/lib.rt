@@ -1,4 +1,4 @@
-//! The search of a device for the keyslots, digests and segments of LUKS2 metadata that stand whole on it.
+//! The search of a device for the keyslots, digests and segments of LUKS2 metadata that are whole on it.
 #![tactic(auto)]
 
 mod fault;

@@ -15,7 +15,7 @@ pub const LEAST_BLOCK: usize = 8192;
 /// An object has no more bytes.
 const LONGEST: usize = 4096;
 
-/// So many bytes before the place are read with what is looked at: the number that stands before a fragment.
+/// So many bytes before the place are read with what is looked at: the number that comes before a fragment.
 const BEFORE: u64 = 8;
 
 /// A fragment of a device.
@@ -27,7 +27,7 @@ pub struct Found {
     pub len: usize,
     /// What it is.
     pub kind: Kind,
-    /// Its number, 0 to 31, if it stands before it.
+    /// Its number, 0 to 31, if it comes before it.
     pub number: Option<u8>,
 }
 

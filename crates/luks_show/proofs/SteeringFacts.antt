@@ -1,4 +1,4 @@
--- No character that steers a terminal stands in a text of which they are escaped.
+-- No character that steers a terminal is in a text of which they are escaped.
 use Rattle.std.proofs.Common.{◌≡◌, ℕ, zero, suc, ◌<◌, ◌/◌, ◌%◌, List, [], ◌∷◌, ◌++◌, All, Bool, true, false, cond, IsAscii, IsUtf8, chars, flat_map, encode_utf8, encode_utf8_all, refl, sym, ap₂, ◌∙◌, subst, arith, append-nil}
 use Rattle.std.specs.Fmt.{digit_glyph}
 use Rattle.std.proofs.lemmas.Grind.{common_steps}

@@ -22,7 +22,7 @@ pub record IsWrittenText (listing : Listing) (text : List ℕ) : Type 0 where
   pub compact : has_float value ≡ false → text ≡ compact_text value
   pub back : depth value ≤ max_depth → read text ≡ Some value
 
--- and as it is printed: each character that steers a terminal is escaped, so that none stands in it
+-- and as it is printed: each character that steers a terminal is escaped, so that none is in it
 pub record IsJsonText (listing : Listing) (text : List ℕ) : Type 0 where
   pub written : List ℕ
   pub is : IsWrittenText listing written

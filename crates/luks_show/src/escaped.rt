@@ -37,7 +37,7 @@ impl fmt::Display for EscapedByte {
     }
 }
 
-/// The text of a field: what stands before its first zero byte, or the whole field.
+/// The text of a field: what precedes its first zero byte, or the whole field.
 pub fn before_zero(field: &[u8]) -> &[u8]
     ensures { result.now ≡ text_of field.now }
 {

@@ -21,7 +21,7 @@ pub(crate) fn list_luks1<W: fmt::Write>(header: &Luks1, f: &mut fmt::Formatter<W
     Ok(())
 }
 
-/// The same with places in bytes beside sectors, and the salts of its enabled keyslots.
+/// Lists the header with places in bytes beside sectors, and the salts of its enabled keyslots.
 pub(crate) fn list_luks1_fully<W: fmt::Write>(
     header: &Luks1,
     f: &mut fmt::Formatter<W>,

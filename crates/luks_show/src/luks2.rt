@@ -16,7 +16,7 @@ pub(crate) fn list_luks2<W: fmt::Write>(
     list_with(copy, Lines::Few, f)
 }
 
-/// The same with its subsystem, the costs and salts of its keyslots and the encryption of its segments.
+/// Lists the header with its subsystem, the costs and salts of its keyslots and the encryption of its segments.
 pub(crate) fn list_luks2_fully<W: fmt::Write>(
     copy: &ChosenCopy,
     f: &mut fmt::Formatter<W>,

@@ -9,7 +9,7 @@ use Rattle.luks_signatures.specs.Signatures.{BeginsEntry, HasEmptyTable, HasPart
 pub part-front : (v : List ℕ) (n p len : ℕ) → p + len ≤ n → part (take n v) p len ≡ part v p len
 part-front v n p len inside = part-part v 0 n p len inside ∙ ap (λ q. part v q len) (zero-add p)
 
--- bytes that would run past the end of others don't stand there
+-- bytes that would run past the end of others don't are there
 pub stands-inside : (v : List ℕ) (p : ℕ) (b : List ℕ) → 1 ≤ length b → Stands v p b → p + length b ≤ length v
 stands-inside v p b some stands = omega (arith, length-part v p (length b), ap length stands)
 

@@ -1,5 +1,5 @@
 -- What shows that a disk is used for something else than LUKS: the signatures by which libblkid of util-linux knows
--- other uses, from its superblocks and its partition tables, of those that stand at a fixed place at the start of a disk.
+-- other uses, from its superblocks and its partition tables, of those that are at a fixed place at the start of a disk.
 -- Those that end a disk, as DRBD's metadata and those of most RAID controllers, aren't here; nor what has no bytes of its
 -- own: a log of XFS, a table of Atari, the tables inside a partition (Solaris, UnixWare, Minix), and UFS as HP-UX has it.
 use Rattle.std.specs.Prelude.{◌≡◌, ◌≢◌, ℕ, ◌+◌, ◌*◌, ◌<◌, List, [], ◌∷◌, ◌++◌, Option, Some, None, ◌⊎◌, codes, length, slice_index}
@@ -27,9 +27,9 @@ abbrev pub row : OtherUse → ℕ → List ℕ → Row
 row use_of place bytes = record { mark = Bytes place bytes; shows = use_of }
 
 -- The table, in the order in which its rows are asked: that of libblkid's superblocks, with the partition tables
--- around them. GPT stands before all, since it has an MBR too; the other tables after all, MBR last, since the boot
--- sector of a file system ends as it does. BitLocker stands before FAT, whose text its boot sector has too, and UDF
--- before ISO 9660, which may stand beside it.
+-- around them. GPT comes before all, since it has an MBR too; the other tables after all, MBR last, since the boot
+-- sector of a file system ends as it does. BitLocker comes before FAT, whose text its boot sector has too, and UDF
+-- before ISO 9660, which may be beside it.
 abbrev pub table : List Row
 table =
     row Gpt 512 (codes "EFI PART") ∷

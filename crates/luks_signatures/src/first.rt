@@ -9,10 +9,10 @@ use crate::table::{Row, TABLE};
 use luks_area::{Device, DeviceFault};
 
 /// What the signatures among the first `len` bytes of a disk show, or among all of its bytes where it
-/// has fewer: the use by the first row of the table that stands there. None where no row does.
+/// has fewer: the use by the first row of the table that is there. None where no row does.
 ///
 /// The least bytes that decide are read, at most 512 at once; no memory is asked for. The table has
-/// what libblkid of util-linux knows, of what stands at the start of a disk.
+/// what libblkid of util-linux knows, of what is at the start of a disk.
 pub fn first_use<D: Device>(device: &mut D, len: u64) -> Result<Option<OtherUse>, DeviceFault>
     requires { D.failed device.old + 1 < 2 ^ 64 }
     ensures unchanged { IsUnchanged D.tells D.size D.bytes D.unsettled device.old device.new }

@@ -17,7 +17,7 @@ pub fn is_reencrypting(first: &[u8]) -> bool
     first[..6] == MAGIC[..]
 }
 
-/// The same of the header at the start of a device. A shorter one has none.
+/// Whether the header at the start of a device has that magic. A shorter device has none.
 pub fn is_reencrypted<D: Device>(device: &mut D) -> Result<bool, DeviceFault>
     requires { D.failed device.old + 1 < 2 ^ 64 }
     ensures unchanged { IsUnchanged D.tells D.size D.bytes D.unsettled device.old device.new }

@@ -14,7 +14,7 @@ const MOST: usize = 32;
 /// The length of a label of ZFS.
 const LABEL: u64 = 0x4_0000;
 
-/// Where the uberblocks of a label begin.
+/// The start of the uberblocks of a label.
 const UBERBLOCKS: u64 = 0x2_0000;
 
 /// The number by which an uberblock begins, 0x00BAB10C, in both byte orders.

@@ -6,7 +6,7 @@ use Rattle.luks_slot.specs.declared.plan.SlotPlan.{SlotPlan}
 use Rattle.luks_slot.specs.Distance.{digest_distance, digest_of, differing_bits, slot_digest, slot_distance, IsButDigest}
 use Rattle.luks_slot.specs.Opening.{area_key, candidate, derived, meets_digest, slot_key, stripes_in}
 
--- two plans that say the same but for the digest have one candidate
+-- two plans that say the same except for the digest have one candidate
 candidate_alike : (plan other : SlotPlan) (area passphrase : List ℕ) → IsButDigest plan other → candidate other area passphrase ≡ candidate plan area passphrase
 unfolding candidate area_key stripes_in
 candidate_alike plan other area passphrase b =

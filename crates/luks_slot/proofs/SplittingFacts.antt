@@ -1,4 +1,4 @@
--- How many stripes stand in a row, and where.
+-- How many stripes are in a row, and where.
 use Rattle.std.proofs.Common.{◌≡◌, ℕ, ◌+◌, ◌-◌, ◌*◌, ◌/◌, ◌≤◌, List, take, drop, ap, ◌∙◌, arith, refl}
 use Rattle.std.proofs.Math.Nat.{mul-div_cancel}
 use Rattle.luks_kdf.specs.Splitter.{block_at, merge, mixed, stripe_at}

@@ -30,7 +30,7 @@ slot_distance plan area passphrase = digest_distance plan.digest (candidate plan
 unfoldable pub slot_digest : SlotPlan → List ℕ → List ℕ → List ℕ
 slot_digest plan area passphrase = digest_of plan.digest (candidate plan area passphrase)
 
--- two plans that say the same but for the stored digest
+-- two plans that say the same except for the stored digest
 pub record IsButDigest (plan other : SlotPlan) : Type 0 where
   pub derivation : other.derivation ≡ plan.derivation
   pub cipher : other.cipher ≡ plan.cipher

@@ -133,7 +133,7 @@ pub(crate) fn made_digest(
     made_in(&mut buffer[..digest.stored.len()], digest, hash, key)
 }
 
-// The same, with room for it.
+// The digest of the key, with room for it.
 fn made_in(
     room: &mut [u8],
     digest: &DigestPlan<'_>,

@@ -13,7 +13,7 @@ ghost use Rattle.luks_slot.specs.Sealing.{IsSealed};
 
 use luks_kdf::KeyslotHash;
 
-/// Where an area holds what sealing a key leaves, opening it by the same passphrase answers that
+/// If an area holds what sealing a key leaves, opening it by the same passphrase answers that
 /// key where the key meets the plan's digest, and none where it doesn't.
 pub fn sealed_area_opens()
     ensures { (plan : ThePlan) (area passphrase key random : List ℕ)
@@ -26,7 +26,7 @@ pub fn sealed_area_opens()
     KeyslotHash::merge_undoes_split();
 }
 
-/// Where nothing is allowed, a keyslot is refused exactly as it is without Argon2 and without older
+/// If nothing is allowed, a keyslot is refused exactly as it is without Argon2 and without older
 /// ciphers, hashes and lengths of keys, for the same reason, and what is answered then is the same.
 pub fn nothing_allowed_is_as_before()
     ensures refusal { (plan : ThePlan) → slot_refusal_within none_allowed plan ≡ slot_refusal plan }

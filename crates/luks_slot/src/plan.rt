@@ -76,7 +76,7 @@ pub struct SlotPlan<'a> {
     pub derivation: Derivation<'a>,
     /// The cipher of the area.
     pub cipher: AreaCipher<'a>,
-    /// Where the key material lies, in whole sectors of 512 bytes from the area's start.
+    /// The place of the key material, in whole sectors of 512 bytes from the area's start.
     pub area: Area,
     /// The length in bytes of the key of the area's cipher.
     pub area_key_bytes: usize,

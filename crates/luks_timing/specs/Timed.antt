@@ -86,7 +86,7 @@ abbrev pub TimesKdf : ℕ → AskedKdf → Type 0
 TimesKdf allowed (Pbkdf2 iterations) = ⊤
 TimesKdf allowed (Argon2 asked) = CanBeTimed allowed asked
 
--- the clock's fault comes only where something is timed, and want of memory where Argon2 is
+-- the clock's fault comes only where something is timed, and a failed allocation where Argon2 is
 abbrev pub IsKdfFault : ℕ → AskedKdf → CostFault → Type 0
 IsKdfFault allowed kdf (Clock error) = TimesKdf allowed kdf
 IsKdfFault allowed kdf Memory = TimesArgon2 allowed kdf

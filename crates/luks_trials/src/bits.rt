@@ -14,7 +14,7 @@ pub fn differing_bits(one: &[u8], other: &[u8]) -> u32
     differing_in(&mut room[..one.len()], one, other)
 }
 
-/// The same, with room for what is to be compared.
+/// The number of differing bits, with room for what is to be compared.
 fn differing_in(room: &mut [u8], one: &[u8], other: &[u8]) -> u32
     requires room_length { length room.old ≡ length one.now }
     requires long { length one.now ≡ length other.now }

@@ -103,7 +103,7 @@ fn is_cheap(plan: &SlotPlan<'_>) -> bool
         && plan.stripes <= MOST_STRIPES
 }
 
-/// The same of how its area's key is derived.
+/// Whether deriving the area's key is cheap.
 fn is_cheap_derivation(derivation: &Derivation<'_>) -> bool
     ensures { IsTrue result ↔ IsCheapDerivation derivation.now }
 {

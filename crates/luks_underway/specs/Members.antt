@@ -1,4 +1,4 @@
--- Values of members that stand in metadata in the midst of something alone (LUKS2 On-Disk Format 1.1.3, 3.2.3 and 4.10; where it is silent, cryptsetup 2.6).
+-- Values of members that are in metadata in the midst of something alone (LUKS2 On-Disk Format 1.1.3, 3.2.3 and 4.10; where it is silent, cryptsetup 2.6).
 use Rattle.std.specs.Prelude.{ℕ, List, [], ◌∷◌, Bool, ◌&&◌, ◌==◌, ◌%◌, nat_lt, Option, option_and_then}
 use Rattle.std.specs.List.{list_any}
 use Rattle.serde_json.specs.Data.{Data}

@@ -10,7 +10,7 @@ use luks_json::names;
 use luks_rules::{Section, section_at};
 use serde_json::Value;
 
-/// The text stands in `config.requirements.mandatory` (LUKS2 On-Disk Format 1.1, 3.5).
+/// The text is in `config.requirements.mandatory` (LUKS2 On-Disk Format 1.1, 3.5).
 pub fn has_requirement(value: &Value, text: &str) -> bool
     ensures { result ≡ names text.now (mandatory_in (view value.now)) }
 {

@@ -18,7 +18,7 @@ use std::fmt;
 use std::io::{self, Write};
 
 /// Says of the volume of this name what a reencryption does that is under way in it, which way, from which key to
-/// which and where, and what goes on with it. Where none is, it says nothing.
+/// which and where, and what goes on with it. If none is, it says nothing.
 pub fn note_under_way<E: Write>(meta: &Underway, volume: &str, err: &mut E) -> io::Result<()>
     ensures { OnOk result ((text : List ℕ) × IsReencryptionSaid (content meta.now) volume.now text
         × Appends (E.contents err.old) (E.contents err.new) text) }
@@ -113,7 +113,7 @@ impl fmt::Display for KeyWords {
     }
 }
 
-/// Where the part in hand lies.
+/// The place of the part in hand.
 #[derive(Clone, Copy)]
 struct PartWords(Option<Hotzone>);
 

@@ -15,7 +15,7 @@ pub record IsWrittenUnderway (header : Bin2) (copies : Copies) (j : Data) (text 
   pub compact : has_float value ≡ false → text ≡ compact_text value
   pub back : depth value ≤ max_depth → read text ≡ Some value
 
--- and as it is printed: each character that steers a terminal is escaped, so that none stands in it
+-- and as it is printed: each character that steers a terminal is escaped, so that none is in it
 pub record IsUnderwayJson (header : Bin2) (copies : Copies) (j : Data) (text : List ℕ) : Type 0 where
   pub written : List ℕ
   pub is : IsWrittenUnderway header copies j written

@@ -61,7 +61,7 @@ crypt_target key d =
 abbrev pub linear_target : Data → List ℕ
 linear_target d = codes "linear DEVICE " ++ line (decimal (start_at d / 512))
 
--- sectors of either key may stand in the part in hand: none of it is read. What only the disk encrypts is read as it is
+-- sectors of either key may be in the part in hand: none of it is read. What only the disk encrypts is read as it is
 abbrev pub target : Option ℕ → Data → List ℕ
 target key d = if is_hot d then line (codes "error") else (if is_crypt d then crypt_target key d else linear_target d)
 

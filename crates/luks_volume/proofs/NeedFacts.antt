@@ -22,7 +22,7 @@ unread_untold v payload e fault.Memory x = x
 unread_untold v payload e fault.Device x = tt
 unread_untold v payload e f x = absurd x
 
--- neither the device's failure nor want of memory is among the first faults
+-- neither the device's failure nor a failed allocation is among the first faults
 first_untold_by : (v : List ℕ) (payload : Data) (e : Edit) (f : EditFault) → (IsNeedFault v payload e fault.Memory → ⊥)
     → IsLeast edit_key (IsNeedFault v payload e) f → IsUntold v payload e f
 first_untold_by v payload e fault.Memory none x = absurd (none x.0)

@@ -52,7 +52,7 @@ pub fn apply<D: Device>(
 /// What `apply` does of a volume whose header, read before, is this one: the header isn't read again.
 /// It is given up, so that the old metadata doesn't live beside the new.
 ///
-/// Where the device has other bytes than those of which the header was read, nothing is said of what
+/// If the device has other bytes than those of which the header was read, nothing is said of what
 /// the edit leaves.
 #[tactic(auto, using(luks_area::proofs::DeviceFacts::settled_unchanged))]
 pub fn apply_of_header<D: Device>(

@@ -44,12 +44,12 @@ pub fn run<D: Device>(
     ensures ran { D.tells → OnOk result (Ran (Replies payload) (D.bytes device.old) steps.now
         replies.old.items replies.new.items (D.bytes device.new)) }
 
-    // Where the device didn't fail, a volume that was well formed is so again, its segments are as
+    // If the device didn't fail, a volume that was well formed is so again, its segments are as
     // they were, and each keyslot that no completed step named opens as before.
     ensures keeps { D.tells → WellFormed (D.bytes device.old) payload → OnOk result
         (IsKeptByRun payload (D.bytes device.old) steps.now
         replies.old.items replies.new.items (D.bytes device.new)) }
-    // Where the device failed, the steps before left a volume that keeps all that no completed one
+    // If the device failed, the steps before left a volume that keeps all that no completed one
     // named, and the failing step spared of it what `apply` spares.
     ensures spared { D.tells → WellFormed (D.bytes device.old) payload
         → (D.failed device.new ≡ D.failed device.old → ⊥) → OnOk result

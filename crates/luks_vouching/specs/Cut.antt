@@ -1,4 +1,4 @@
--- A JSON area of which what stands behind its text is taken as zeros (LUKS2 On-Disk Format 1.1, 3.1: the
+-- A JSON area of which what follows its text is taken as zeros (LUKS2 On-Disk Format 1.1, 3.1: the
 -- text is ended by a zero byte, and what is left of the area is zeros).
 use Rattle.std.specs.Prelude.{◌≡◌, ℕ, ◌-◌, ◌==◌, List, ◌++◌, ◌⊎◌, length, take, replicate}
 use Rattle.std.specs.List.{position_or_len}

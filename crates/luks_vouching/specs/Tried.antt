@@ -118,7 +118,7 @@ IsFirstTried most first second meets j =
 abbrev pub IsNoneTried : ℕ → List ℕ → List ℕ → (List ℕ → Type 0) → Type 0
 IsNoneTried most first second meets = (j : List ℕ) → IsTried most first second j → meets j → ⊥
 
--- not all compositions of pieces are tried: together they have too many bytes. Where they haven't, neither have
+-- not all compositions of pieces are tried: together they have too many bytes. If they haven't, neither have
 -- those of sectors
 abbrev pub IsCutShort : ℕ → List ℕ → List ℕ → Type 0
 IsCutShort most first second = most < bytes_of_pieces first second

@@ -16,11 +16,11 @@ use Rattle.luks_vouching.specs.declared.vouched.Vouched.{Vouched}
 abbrev pub area_at : List ℕ → ℕ → ℕ → List ℕ
 area_at v o size = part v (o + 4096) (size - 4096)
 
--- the binary header at `o` with the magic of its place, whatever stands in place of the magic
+-- the binary header at `o` with the magic of its place, whatever is in place of the magic
 abbrev pub mended_header : List ℕ → ℕ → List ℕ
 mended_header v o = magic_of o ++ drop 6 (header_at v o)
 
--- but for its magic the binary header of the copy at `o` of a header of `size` bytes is of the right
+-- except for its magic the binary header of the copy at `o` of a header of `size` bytes is of the right
 -- form, and both copies lie inside the volume
 pub record Stands (v : List ℕ) (size o : ℕ) : Type 0 where
   pub listed : IsListed size

@@ -39,7 +39,7 @@ fn sector(area: &[u8], k: usize) -> &[u8]
     &area[k * SECTOR..k * SECTOR + SECTOR]
 }
 
-/// How many sectors stand before the first that differs.
+/// How many sectors come before the first that differs.
 pub(crate) fn alike(first: &[u8], second: &[u8]) -> usize
     requires whole { IsWholeSectors first.now }
     requires long { length second.now ≡ length first.now }

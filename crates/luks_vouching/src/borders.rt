@@ -11,7 +11,7 @@ use crate::search::{fed, is_sum};
 use sha2::{Digest, Sha256};
 
 /// The least number of sectors of the front that, with the rest of the other area, meet the checksum,
-/// by a hasher that was fed what stands before them, if it is near enough. Behind each sector that differs
+/// by a hasher that was fed what precedes them, if it is near enough. Behind each sector that differs
 /// the rest is hashed once more.
 pub(crate) fn least_border(
     front: &[u8],
@@ -57,7 +57,7 @@ pub(crate) fn least_border(
     }
 }
 
-/// Whether the checksum is met by what the hasher was fed and these bytes. Where that isn't new it is no.
+/// Whether the checksum is met by what the hasher was fed and these bytes. If they aren't new, it isn't.
 fn is_met(is_new: bool, begun: &Sha256, bytes: &[u8], sum: &[u8]) -> bool
     ensures met { (done : List ℕ) → Holds256 begun.now done → result ≡ true
         → sum.now ≡ sha256 (done ++ bytes.now) }

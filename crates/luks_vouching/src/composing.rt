@@ -14,7 +14,7 @@ use crate::progress::SearchProgress;
 use crate::search::{fed, search};
 use sha2::Sha256;
 
-/// Whether a composition that is tried meets the checksum, by a hasher that was fed what stands before
+/// Whether a composition that is tried meets the checksum, by a hasher that was fed what precedes
 /// it, where at most `most` bytes of areas may be hashed. Then `json` holds the first one.
 pub(crate) fn compose<P: SearchProgress>(
     first: &[u8],
@@ -50,7 +50,7 @@ pub(crate) fn compose<P: SearchProgress>(
     compose_pieces(first, second, json, &again, sum, most, progress)
 }
 
-/// The same, of the compositions of sectors.
+/// Composes the two copies' sectors.
 fn compose_sectors<P: SearchProgress>(
     first: &[u8],
     second: &[u8],
@@ -87,7 +87,7 @@ fn may_try_all(first: &[u8], second: &[u8], most: usize) -> bool
     all_may(differing(first, second), first.len(), most)
 }
 
-/// The same, of the compositions by one border alone.
+/// Composes the two copies by one border alone.
 fn compose_by_border(
     first: &[u8],
     second: &[u8],

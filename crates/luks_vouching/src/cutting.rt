@@ -7,7 +7,7 @@ ghost use Rattle.luks_vouching.specs.Cut.{cut, text_end};
 use crate::search::{fed, is_sum};
 use sha2::Sha256;
 
-/// Whether the area, cut where its text ends, meets the checksum, by a hasher that was fed what stands before
+/// Whether the area, cut where its text ends, meets the checksum, by a hasher that was fed what precedes
 /// it. `json` holds it then.
 pub(crate) fn try_cut(area: &[u8], json: &mut [u8], hasher: &Sha256, sum: &[u8]) -> bool
     requires { length json.old ≡ length area.now }
@@ -31,7 +31,7 @@ fn put_cut(area: &[u8], json: &mut [u8])
     json[end..].fill(0);
 }
 
-/// Where the area's text ends: its first zero byte, or its end.
+/// The end of the area's text: its first zero byte, or the area's end.
 fn text_end(area: &[u8]) -> usize
     ensures end { result ≡ text_end area.now }
     ensures inside { result ≤ length area.now }

@@ -9,13 +9,13 @@ use arrayvec::ArrayVec;
 /// Bytes that a composition has all of one area or all of the other.
 #[derive(Clone, Copy, Default, Drop)]
 pub(crate) struct Piece {
-    /// Where they begin, in bytes from the area's start.
+    /// Their start, in bytes from the area's start.
     pub(crate) at: usize,
     /// How many they are.
     pub(crate) len: usize,
 }
 
-/// Where more bytes of a sector differ, it is one piece.
+/// If more bytes of a sector differ, it is one piece.
 const MOST_BYTES: usize = 16;
 
 /// The pieces of two areas, if they are 32 at most: of more not all compositions may be hashed.

@@ -14,7 +14,7 @@ use crate::search::{fed, is_sum};
 use arrayvec::ArrayVec;
 use sha2::Sha256;
 
-/// Whether a composition of pieces meets the checksum, by a hasher that was fed what stands before it, where
+/// Whether a composition of pieces meets the checksum, by a hasher that was fed what precedes it, where
 /// all of them may be hashed. Then `json` holds the first one.
 pub(crate) fn compose_pieces<P: SearchProgress>(
     first: &[u8],

@@ -9,10 +9,10 @@ use crate::areas::{SECTOR, alike};
 use crate::progress::SearchProgress;
 use sha2::{Digest, Sha256};
 
-/// Whether a composition meets the checksum, by a hasher that was fed what stands before it. Then
+/// Whether a composition meets the checksum, by a hasher that was fed what precedes it. Then
 /// `json` holds the first one that does.
 ///
-/// Where two sectors differ, the first copy's is tried with all that follows, then the second's: each
+/// If two sectors differ, the first copy's is tried with all that follows, then the second's: each
 /// of these doubles the work behind it. `progress` is told of each composition.
 pub(crate) fn search<P: SearchProgress>(
     first: &[u8],

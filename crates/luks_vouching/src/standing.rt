@@ -1,4 +1,4 @@
-//! Whether a binary header stands, but for its magic.
+//! Whether a binary header stands, except for its magic.
 ghost use Rattle.std.specs.Prelude.{◌≡◌, ◌↔◌, ◌+◌, ◌≤◌, ◌⊎◌, ◌++◌, ℕ, List, codes, drop, length, IsTrue};
 ghost use Rattle.sha2.specs.Hashers.{Holds256};
 ghost use Rattle.luks_area.specs.Ranges.{part};
@@ -18,7 +18,7 @@ pub(crate) const HEADER: usize = 4096;
 /// The magic of the second copy: `SKUL`, 0xBA, 0xBE.
 const SECOND_MAGIC: [u8; 6] = [0x53, 0x4B, 0x55, 0x4C, 0xBA, 0xBE];
 
-/// Where the checksum stands in a binary header, in bytes from its start.
+/// Where the checksum is in a binary header, in bytes from its start.
 const CSUM: usize = 448;
 
 /// The bytes of the checksum's field.
@@ -27,7 +27,7 @@ const CSUM_SIZE: usize = 64;
 /// The bytes of a SHA-256, which stand first in it.
 const SHA256_SIZE: usize = 32;
 
-/// Puts the magic of the copy at the place `at` over what stands in its place.
+/// Puts the magic of the copy at the place `at` over what is in its place.
 pub(crate) fn mend(head: &mut [u8], at: u64)
     requires { length head.old ≡ binary_header_size }
     ensures { head.new ≡ magic_of at ++ drop 6 head.old }

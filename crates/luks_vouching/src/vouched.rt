@@ -31,7 +31,7 @@ pub struct Vouched {
 }
 
 /// The metadata that the checksum of the copy at `at` vouches for, of a header of `size` bytes: the
-/// binary header stands there but for its magic, and a JSON area that is composed of the sectors of
+/// binary header is there except for its magic, and a JSON area that is composed of the sectors of
 /// both copies meets its checksum (LUKS2 On-Disk Format 1.1, 2.1).
 ///
 /// At most `most` bytes of JSON areas are hashed: nothing where two have more. All compositions are tried where

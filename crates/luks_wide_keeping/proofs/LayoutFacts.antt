@@ -163,7 +163,7 @@ no_room bytes total b told off = elim (cases_lt total (2 * bytes)) [
 
 -- ---- the least of a kind
 
--- the least of a kind stands before each of it
+-- the least of a kind comes before each of it
 not_before : (is : ℕ → Type 0) (n m : ℕ) → IsFirstOf is n → is m → n ≤ m
 not_before is n m first x = elim (cases_lt m n) [
   | inl less ↦ absurd (first.2 m less x)

@@ -146,7 +146,7 @@ unmade_checked v total (check.Area f) own least = unmade_layout v total (check.A
 unmade_checked v total check.Device own least = absurd (true≢false own)
 unmade_checked v total check.Memory own least = absurd least.0.fault
 
--- none is want of memory
+-- none is a failed allocation
 pub no_memory : (f : CheckFault) → f ≢ check.Memory → checked_backup f ≢ Memory
 no_memory (check.Head f) own = λ e. (let no : NotAccepted (check.Head f) ≡ Memory = e in cc)
 no_memory (check.Meta f) own = λ e. (let no : NotAccepted (check.Meta f) ≡ Memory = e in cc)

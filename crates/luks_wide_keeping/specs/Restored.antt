@@ -89,7 +89,7 @@ pub record CanRestoreUnderway (b t : List ℕ) (payload : Data) (over : OverUnde
 
 -- ---- words of private contracts
 
--- no fault of the layout stands on a device of `total` bytes with the header of the copy
+-- no fault of the layout is on a device of `total` bytes with the header of the copy
 pub record HasNoFault (c : UnderwayCopy) (payload : Data) (total : ℕ) : Type 0 where
   pub none : (f : CheckFault) → IsLayoutFault c.header.hdr_size (content c.meta) payload total f → ⊥
 

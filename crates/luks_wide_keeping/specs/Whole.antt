@@ -27,7 +27,7 @@ pub record IsWholeLaid (c : UnderwayCopy) (total : ℕ) (places : Places) : Type
   pub there : HasPlace places 0 area
   pub only : (n : ℕ) (a : Area) → HasPlace places n a → (n ≡ 0) × (a ≡ area)
 
--- a byte place of the bytes `size` stands before a known size, or before any where none is known
+-- a byte place of the bytes `size` comes before a known size, or before any where none is known
 abbrev pub IsBelow : ℕ → Option ℕ → Type 0
 IsBelow offset (Some size) = offset < size
 IsBelow offset None = Unit {0}

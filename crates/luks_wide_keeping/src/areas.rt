@@ -34,7 +34,7 @@ pub(crate) fn judge_layout(copy: &UnderwayCopy, payload: Data, total: u64) -> Re
     }
 }
 
-/// The same but for segments.
+/// The same except for segments.
 fn judge_areas(copy: &UnderwayCopy, total: u64) -> Result<(), CheckFault>
     ensures header { OnOk result (2 * copy.now.header.hdr_size ≤ total) }
     ensures fits { OnOk result ((f : TheFault)

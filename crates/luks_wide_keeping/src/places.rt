@@ -8,7 +8,7 @@ use luks_keeping::Places;
 use luks_reading::Copies;
 use luks_wide_reading::UnderwayCopy;
 
-/// Where both copies of the header stand on a device of `total` bytes, and as much of the key areas' region as
+/// The place of both copies of the header on a device of `total` bytes, and of as much of the key areas' region as
 /// it has: one area, whatever keyslots are in it.
 pub(crate) fn places_of(copy: &UnderwayCopy, total: u64) -> Places
     requires { 2 * copy.now.header.hdr_size ≤ total }

@@ -118,7 +118,7 @@ fn judge_there(copy: &UnderwayCopy, payload: Data, total: u64) -> Result<(), Und
 }
 
 /// Refuses where the header that counts on the target is another volume's, or isn't of the backup's very state, and
-/// isn't to be written over. Where any may be, nothing is read.
+/// isn't to be written over. If any may be, nothing is read.
 fn judge_standing<B: Device, T: Device>(
     backup: &mut B,
     target: &mut T,

@@ -50,7 +50,7 @@ fn is_below(copy: &UnderwayCopy, n: u8, size: Option<u64>) -> bool
     }
 }
 
-/// Whether the byte place stands before this end, or none is known that a device has.
+/// Whether the byte place comes before this end, or none is known that a device has.
 fn begins_below(offset: u64, end: Option<u64>) -> bool
     ensures below { IsTrue result ↔ IsBelow offset end }
     ensures fits { offset < 2 ^ 64 }

@@ -17,7 +17,7 @@ use luks_reading::{Bin2, ReadFault, Selected, select};
 /// The bytes of a binary header; its JSON area follows.
 const BINARY_HEADER: u64 = 4096;
 
-/// Where the uuid's field of a LUKS1 header stands.
+/// The place of the uuid's field of a LUKS1 header.
 const UUID: usize = 168;
 
 const UUID_END: usize = 208;
@@ -153,7 +153,7 @@ fn is_same_metadata<B: Device, T: Device>(
     are_alike(backup, json_area(here), target, json_area(there))
 }
 
-/// Where the JSON area of the copy with this binary header stands.
+/// The place of the JSON area of the copy with this binary header.
 fn json_area(header: &Bin2) -> Area
     requires large { 4096 ≤ header.now.hdr_size }
     requires inside { header.now.hdr_offset + header.now.hdr_size < 2 ^ 64 }

@@ -16,7 +16,7 @@ use Rattle.luks_wide_reading.specs.declared.read_fault.WideReadFault.TheVariants
 
 -- ---- reading
 
--- the fault of metadata in which something is under way: want of memory stands for itself
+-- the fault of metadata in which something is under way: a failed allocation stands for itself
 abbrev pub underway_unread : WideFault → MetaFault → WideReadFault
 underway_unread (wide.Meta meta.Memory) narrow = Read reading.Memory
 underway_unread f narrow = Underway f narrow
@@ -32,7 +32,7 @@ wide_read_text (Underway f narrow) = wide_fault_text f
 
 -- ---- opening
 
--- the order of the refusals of a keyslot: that it holds no key stands behind its being there
+-- the order of the refusals of a keyslot: that it holds no key follows its being there
 abbrev pub wide_open_key : WideOpenFault → List ℕ
 wide_open_key (Open f) = open_key f
 wide_open_key NoKey = 4 ∷ []

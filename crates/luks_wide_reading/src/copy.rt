@@ -6,7 +6,7 @@ use luks_wider::Underway;
 /// The LUKS2 copy that counts, where something is under way in its metadata.
 #[derive(Drop)]
 pub struct UnderwayCopy {
-    /// Its binary header. The copy stands at `header.hdr_offset`.
+    /// Its binary header. The copy is at `header.hdr_offset`.
     pub header: Bin2,
     /// How the two copies stand to each other.
     pub copies: Copies,

@@ -36,10 +36,10 @@ pub enum WideHeader {
     Underway(UnderwayCopy),
 }
 
-/// Reads the header that counts by the wider reading: what `read_header` answers, but for metadata in which
+/// Reads the header that counts by the wider reading: what `read_header` answers, except for metadata in which
 /// something is under way, which is judged by the rules of that.
 ///
-/// `Read` is answered as `read_header` answers it, but by `Meta` only where nothing is under way; `Underway`
+/// `Read` is answered as `read_header` answers it, except by `Meta` only where nothing is under way; `Underway`
 /// by the first fault of what is. Memory is taken for the metadata of LUKS2 alone, for one value at a time.
 pub fn read_wide_header<D: Device>(
     alloc: Global,
@@ -166,7 +166,7 @@ fn read_under_way(
     }
 }
 
-/// Why metadata isn't read in which something is under way: want of memory stands for itself.
+/// Why metadata isn't read in which something is under way: a failed allocation stands for itself.
 fn underway_unread(fault: WideFault, narrow_fault: &MetaFault) -> WideReadFault
     ensures { result ≡ underway_unread fault narrow_fault.now }
 {

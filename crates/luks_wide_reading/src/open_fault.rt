@@ -8,7 +8,7 @@ use luks_reading::OpenFault;
 use std::error::Error;
 use std::fmt;
 
-/// Why a keyslot isn't opened where something is under way. The first in this order is answered, but for the
+/// Why a keyslot isn't opened where something is under way. The first in this order is answered, except for the
 /// device and memory: `Open(NoSuchSlot)`, `NoKey`, `Open(Outside)`, `Open(Slot)`.
 #[derive(Debug, Clone, Copy, Drop)]
 pub enum WideOpenFault {

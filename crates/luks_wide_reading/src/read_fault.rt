@@ -18,7 +18,7 @@ pub enum WideReadFault {
     Read(ReadFault),
     /// Something is under way in the metadata of the chosen copy, and it breaks a rule of that.
     Underway {
-        /// The first fault by the rules of what is under way. It is never want of memory.
+        /// The first fault by the rules of what is under way. It is never a failed allocation.
         fault: WideFault,
         /// The fault by which `read_header` refuses it.
         narrow_fault: MetaFault,

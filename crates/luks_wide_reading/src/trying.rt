@@ -25,7 +25,7 @@ pub(crate) enum Rank {
     Normal,
 }
 
-/// Tries the keyslots of a volume with this copy in their order, but for those that hold no key: the first
+/// Tries the keyslots of a volume with this copy in their order, except for those that hold no key: the first
 /// that opens by the passphrase, and its volume key, or None where none does.
 ///
 /// A keyslot with a refusal of its own is passed over. `Device` comes exactly where a device call failed;

@@ -19,7 +19,7 @@ use Rattle.luks_wider.specs.WideFaults.{HasContradiction, IsUnderWayFault, IsWid
 use Rattle.luks_wider.specs.declared.fault.WideFault.{WideFault}
 use Rattle.luks_wider.specs.declared.fault.WideFault.TheVariants.{Meta, UnderWay}
 
--- each fault of the members stands before what contradicts itself
+-- each fault of the members comes before what contradicts itself
 row_before : (f : MetaFault) → meta_row f < 12
 row_before fault.JsonArea = omega arith
 row_before fault.BadJson = omega arith

@@ -179,7 +179,7 @@ known_plain : (o : Option (List ℕ)) → is_some (option_map text (option_and_t
 known_plain None h = absurd (cc)
 known_plain (Some t) h = known_text t h
 
--- ---- arrays of names stand in digests and tokens alone
+-- ---- arrays of names are in digests and tokens alone
 
 keyslot_arrays : list_all (λ r. not (is_names r.rule)) keyslot_rows ≡ true
 keyslot_arrays = refl

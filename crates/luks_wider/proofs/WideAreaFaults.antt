@@ -152,6 +152,6 @@ value_none area j json none g h = none g (into_value area j json g h)
 pub accepted_none : (area : List ℕ) (j : Data) → IsWideArea area j → (g : MetaFault) → IsWideMetaFault area g → ⊥
 accepted_none area j m g h = value_none area j m.json (data_none (length area) j (faultless_of (length area) j m.rules)) g h
 
--- an area that is accepted is refused for want of memory alone
+-- an area that is accepted is refused for a failed allocation alone
 pub memory_where : (area : List ℕ) (f : MetaFault) → (f ≢ fault.Memory → IsLeast meta_key (IsWideMetaFault area) f) → (j : Data) → IsWideArea area j → f ≡ fault.Memory
 memory_where area f least j m = memory_alone f (λ off. accepted_none area j m f (least off).0)

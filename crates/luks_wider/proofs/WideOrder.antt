@@ -1,4 +1,4 @@
--- The rows of each object stand in the order of their paths' bytes.
+-- The rows of each object are in the order of their paths' bytes.
 use Rattle.std.proofs.Common.{◌≡◌, true, List, refl, inl, inr}
 use Rattle.std.proofs.lemmas.Bool.{cases_Bool}
 use Rattle.serde_json.specs.Data.{Data}

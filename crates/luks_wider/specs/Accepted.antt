@@ -1,4 +1,4 @@
--- When the metadata of a JSON area is accepted by the wider reading, said of its value. Where nothing is under way that is said by `luks_rules` alone.
+-- When the metadata of a JSON area is accepted by the wider reading, said of its value. If nothing is under way that is said by `luks_rules` alone.
 use Rattle.std.specs.Prelude.{◌≡◌, ◌⊎◌, ℕ, ◌+◌, ◌*◌, ◌≤◌, List, codes, length, true, false, Some}
 use Rattle.serde_json.specs.Data.{Data, Items}
 use Rattle.serde_json.specs.Written.{has_float}
@@ -20,7 +20,7 @@ use Rattle.luks_underway.specs.Requirements.{are_requirements}
 use Rattle.luks_underway.specs.Segments.{IsWideSegment}
 use Rattle.luks_underway.specs.Slots.{IsWideKeyslot}
 
--- each name in an array is that of an object that is there, and stands in it once; a keyslot with a key is of one digest, the one that says what is
+-- each name in an array is that of an object that is there, and is in it once; a keyslot with a key is of one digest, the one that says what is
 -- under way of one at most; a segment that is encrypted is of one, and the part in hand of one or two
 pub record WideResolves (j : Data) : Type 0 where
   pub there : (s target : Section) (list : Items) → HasNames j s target list → all_there (section_at j target) list ≡ true

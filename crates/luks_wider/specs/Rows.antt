@@ -35,7 +35,7 @@ reencrypt_rows =
 abbrev pub opal_rows : List NewRow
 opal_rows = new.Encryption ∷ new.Flags ∷ new.IvTweak ∷ new.Offset ∷ new.OpalKey ∷ new.OpalNumber ∷ new.OpalSize ∷ new.Sector ∷ new.Size ∷ []
 
--- the flags of a segment stand behind its encryption, the first of its rows
+-- the flags of a segment follow its encryption, the first of its rows
 abbrev pub with_flags : List Row → List WideRow
 with_flags [] = New new.Flags ∷ []
 with_flags (r ∷ rs) = Known r ∷ New new.Flags ∷ map Known rs

@@ -22,7 +22,7 @@ use Rattle.luks_wider.specs.declared.place.WidePlace.{WidePlace}
 abbrev pub has_small_key_area : Data → ℕ → Bool
 has_small_key_area j n = has_small_area j n && not (has_reencrypt j n)
 
--- the faults of a value in an area of `len` bytes, but for what contradicts itself
+-- the faults of a value in an area of `len` bytes, except for what contradicts itself
 abbrev pub IsWideDataFault : ℕ → Data → MetaFault → Type 0
 IsWideDataFault len j fault.JsonArea = ⊥
 IsWideDataFault len j fault.BadJson = ⊥
@@ -58,7 +58,7 @@ IsWideMetaFault area (fault.AreaTooSmall n) = HasWideDataFault area (fault.AreaT
 IsWideMetaFault area (fault.Region name) = HasWideDataFault area (fault.Region name)
 IsWideMetaFault area fault.Memory = ⊥
 
--- no test finds a fault in a value that stands in an area of `len` bytes
+-- no test finds a fault in a value that is in an area of `len` bytes
 pub record IsWideFaultless (len : ℕ) (j : Data) : Type 0 where
   pub whole : has_float j ≡ false
   pub places : (t : Test) (p : WidePlace) → IsWidePlace j p → has_wide_fault t j p ≡ false

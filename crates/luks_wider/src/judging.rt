@@ -20,14 +20,14 @@ use luks_json::holds_float;
 use luks_rules::{MetaFault, Test, has_slot_outside, has_small_area, json_size};
 use serde_json::Value;
 
-/// A value, and the length in bytes of the JSON area that it stands in.
+/// A value, and the length in bytes of the JSON area that it is in.
 #[derive(Clone, Copy)]
 pub(crate) struct Content<'a> {
     pub len: usize,
     pub value: &'a Value,
 }
 
-/// The first fault of a value, but for what contradicts itself.
+/// The first fault of a value, except for what contradicts itself.
 pub(crate) fn judge_members(content: Content) -> Result<(), MetaFault>
     ensures clean { OnOk result (IsWideFaultless content.entry.len (view content.entry.value.now)) }
     ensures none { OnOk result ((g : MetaFault) → IsWideDataFault content.entry.len (view content.entry.value.now) g → ⊥) }

@@ -93,7 +93,7 @@ fn first_config_row(test: Test, value: &Value, config: &Value) -> Option<WideRow
     }
 }
 
-/// The first row of a segment with a fault: its flags stand behind the first of the known rows.
+/// The first row of a segment with a fault: its flags follow the first of the known rows.
 fn first_segment_row(test: Test, rows: &[Row], value: &Value, segment: &Value) -> Option<WideRow>
     ensures { result ≡ find (wide_row_fault test Section.Segments (view value.now) (view segment.now)) (with_flags rows.now) }
 {

@@ -27,7 +27,7 @@ pub enum Wider {
     Underway(Underway),
 }
 
-/// Reads the metadata of a JSON area, which is a listed header size less 4096 bytes long. Where nothing is
+/// Reads the metadata of a JSON area, which is a listed header size less 4096 bytes long. If nothing is
 /// under way it is what `Meta::read` answers.
 ///
 /// Takes memory for one value at a time. `Memory` is answered only where it was refused; every other

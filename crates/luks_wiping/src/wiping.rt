@@ -17,7 +17,7 @@ pub fn wipe(bytes: &mut [u8])
 /// Writes zeros over 98304 bytes of the stack, below what its caller holds there: over what the calls
 /// have left that its caller made before. With less stack the program ends by a signal.
 ///
-/// The answer is whether zeros stand there, which they do. Who asks for it needs the zeros: else the
+/// The answer is whether zeros are there, which they do. Who asks for it needs the zeros: else the
 /// compiler would leave them out.
 #[inline(never)]
 pub fn wipe_stack() -> bool
@@ -27,7 +27,7 @@ pub fn wipe_stack() -> bool
     becomes_zeros(&mut room)
 }
 
-/// Writes zeros over these bytes, and answers whether they stand there.
+/// Writes zeros over these bytes, and answers whether they are there.
 #[tactic(auto, using(crate::proofs::ZeroFacts::zeros_are_zero))]
 fn becomes_zeros(bytes: &mut [u8]) -> bool
     ensures { IsTrue result }

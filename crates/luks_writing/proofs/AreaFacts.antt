@@ -6,7 +6,7 @@ use Rattle.luks_area.proofs.DeviceFacts.{touches-flush, touches-inside, touches-
 use Rattle.luks_area.specs.Ranges.{part, written, IsAt}
 use Rattle.luks_area.proofs.RangeFacts.{length-part_inside, part-written, written-written}
 
--- what was copied and filled stands there
+-- what was copied and filled is there
 pub copied_area : (s u w x y : List ℕ) (from m at n : ℕ) → m ≤ n → from + m ≤ length s → at + n ≤ length u
     → w ≡ written u at (part s from m) → x ≡ written w (at + m) (replicate (n - m) 0) → y ≡ x
     → part y at n ≡ part s from m ++ replicate (n - m) 0

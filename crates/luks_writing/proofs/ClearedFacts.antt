@@ -9,7 +9,7 @@ use Rattle.luks_writing.specs.Cleared.{IsCleared}
 
 -- ---- what is cleared
 
--- zeros that were written at a place stand there
+-- zeros that were written at a place are there
 pub zeros_stand : (u v : List ℕ) (at : ℕ) → at + 512 ≤ length u → v ≡ written u at (replicate 512 0) → IsCleared v at
 zeros_stand u v at inside is =
     let long : length (replicate {A = ℕ} 512 0) ≡ 512 = length-replicate {A = ℕ} 512 0 in

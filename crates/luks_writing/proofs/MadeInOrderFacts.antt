@@ -1,4 +1,4 @@
--- Facts on the order of writing, for the proofs of every crate that stands on this one.
+-- Facts on the order of writing, for the proofs of every crate that depends on this one.
 use Rattle.std.proofs.Common.{◌≡◌, ℕ, ◌+◌, ◌*◌, ◌-◌, ◌≤◌, List, inl, inr, arith, sym, ap, ◌∙◌}
 use Rattle.luks_area.specs.Ranges.{part, IsAt, SameBut}
 use Rattle.luks_area.proofs.RangeFacts.{part-part, part-same_but, same_but-then, same_but-wider}

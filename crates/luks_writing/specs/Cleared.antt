@@ -1,5 +1,5 @@
 -- The places of a header's copies, cleared before a new header is made (LUKS2 On-Disk Format 1.1, 2.1:
--- both magics stand in the first sector).
+-- both magics are in the first sector).
 use Rattle.std.specs.Prelude.{◌≡◌, ◌⊎◌, ℕ, List, replicate}
 use Rattle.luks_area.specs.Ranges.{part, IsAt, IsOfEither, SameBut}
 
@@ -20,6 +20,6 @@ pub record AreCleared (second : ℕ) (v : List ℕ) : Type 0 where
 abbrev pub IsOfFirstSectors : ℕ → ℕ → Type 0
 IsOfFirstSectors second = IsOfEither (IsAt 0 cleared_size) (IsAt second cleared_size)
 
--- what clearing leaves at any time: no byte but of the sector at 0 has changed, or that is cleared
+-- what clearing leaves at any time: no byte except of the sector at 0 has changed, or that is cleared
 abbrev pub ClearsInTurn : List ℕ → List ℕ → Type 0
 ClearsInTurn old new = SameBut (IsAt 0 cleared_size) old new ⊎ IsCleared new 0

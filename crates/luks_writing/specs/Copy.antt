@@ -16,7 +16,7 @@ pub record IsCopyHeader (header : Bin2) : Type 0 where
   pub second : header.hdr_offset ≢ 0 → header.hdr_size ≡ header.hdr_offset
   pub csum_alg : text_of header.csum_alg ≡ codes "sha256"
 
--- the volume `v` has the copy with this JSON area and with the binary header but for its checksum,
+-- the volume `v` has the copy with this JSON area and with the binary header except for its checksum,
 -- which is that of the copy; zeros follow it in its field
 pub record HasCopy (v json : List ℕ) (header : Bin2) : Type 0 where
   pub csum : List ℕ

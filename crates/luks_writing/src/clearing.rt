@@ -13,7 +13,7 @@ const SECTOR: u64 = 512;
 /// `second`, where its second copy does, with a flush after each. No header counts there then.
 ///
 /// The sector at `second` may lie in a key area of an older LUKS1 header: so it is as it was until that
-/// header counts no more. Where the device fails, the sector that is being written holds any bytes, and
+/// header counts no more. If the device fails, the sector that is being written holds any bytes, and
 /// every other byte is as it was.
 pub fn clear_places<D: Device>(device: &mut D, second: u64) -> Result<(), DeviceFault>
     requires apart { cleared_size ≤ second }

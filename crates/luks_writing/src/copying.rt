@@ -9,7 +9,7 @@ use luks_area::{Device, DeviceFault};
 /// Copies the `len` bytes of the source from the place `from` on to the place `at` of the target, in
 /// pieces of at most 512 bytes, and takes no memory. The source doesn't change.
 ///
-/// Where one of the devices fails it stops, and the range of the target holds anything. Nothing is
+/// If one of the devices fails it stops, and the range of the target holds anything. Nothing is
 /// flushed.
 pub(crate) fn copy_range<S: Device, T: Device>(
     source: &mut S,

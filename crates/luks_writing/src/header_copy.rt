@@ -32,7 +32,7 @@ pub fn write_copy<D: Device>(device: &mut D, header: &Bin2, json: &[u8]) -> Resu
     write_summed_copy(device, &with_checksum(header, json), json)
 }
 
-/// The same of a header that has its checksum already, as `with_checksums` makes it. No checksum is
+/// Writes a copy of a header that has its checksum already, as `with_checksums` makes it. No checksum is
 /// taken here.
 pub fn write_summed_copy<D: Device>(
     device: &mut D,

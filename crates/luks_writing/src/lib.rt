@@ -1,5 +1,5 @@
 //! Writing to a device: ranges, areas and keyslots, copies of a LUKS2 header, zeros where an older header
-//! stood, and areas copied from another device. Each call flushes what it wrote. Where one fails, its own
+//! stood, and areas copied from another device. Each call flushes what it wrote. If one fails, its own
 //! range holds any bytes, and every other byte is as it was.
 //!
 //! Formatting, converting and rebuilding write key areas before the header that names them. An older header

@@ -17,7 +17,7 @@ use luks2_header::TextField;
 /// How many combinations there are, with those that are left out.
 pub(crate) const COMBINATIONS: u8 = 64;
 
-/// Where the length of the key stands, in bytes from the header's start.
+/// The place of the length of the key, in bytes from the header's start.
 const KEY_BYTES: usize = 108;
 
 /// A place of a list that isn't tried.
@@ -99,7 +99,7 @@ fn tried_text(of: TextField, place: u8) -> Option<&'static str>
     }
 }
 
-/// Whether this text stands in the field.
+/// Whether this text is in the field.
 fn stands(header: &[u8], of: TextField, text: &str) -> bool
     requires long { length header.now ≡ luks1_size }
     requires plain { is_plain text.now ≡ true }
@@ -111,7 +111,7 @@ fn stands(header: &[u8], of: TextField, text: &str) -> bool
     }
 }
 
-/// Where the text of a field stands, in bytes from the header's start.
+/// The place of the text of a field, in bytes from the header's start.
 fn place_of(of: TextField) -> usize
     ensures { result ≡ field_at of }
 {

@@ -23,7 +23,7 @@ pub struct Opening {
     pub given: Given,
     /// The header that is made with it.
     pub header: Luks1,
-    /// The same as it is written.
+    /// The header as it is written.
     pub bytes: [u8; 592],
     /// The keyslot that opens, 0 to 7.
     pub slot: u8,

@@ -20,7 +20,7 @@ pub(crate) fn note_unopened<E: Write>(nearest: Option<Nearest>, passphrase: &[u8
     }
 }
 
-/// Says that a keyslot would open but for a few bits of its digest.
+/// Says that a keyslot would open except for a few bits of its digest.
 fn note_almost_met<E: Write>(near: Nearest, err: &mut E) {
     let Nearest { slot, bits } = near;
     let unit = if bits == 1 { "bit" } else { "bits" };

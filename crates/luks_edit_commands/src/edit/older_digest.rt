@@ -36,7 +36,7 @@ fn has_older_digest(header: &Header, len: usize) -> bool
     }
 }
 
-/// The same of the metadata of LUKS2.
+/// Whether LUKS2 metadata has such a digest.
 fn has_older_digest_of(meta: &Meta, len: usize) -> bool
     requires { IsAccepted (content meta.now) }
 {

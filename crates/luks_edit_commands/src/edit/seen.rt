@@ -140,7 +140,7 @@ pub(super) fn look_at_volume<'a, D: Device, E: Write>(
     })
 }
 
-/// How many random bytes the edit takes of a volume of `total` bytes with this header. Where that is refused,
+/// How many random bytes the edit takes of a volume of `total` bytes with this header. If that is refused,
 /// and by the volume key, it says whether a hash of older disks would have to be accepted.
 fn needed_told<E: Write>(
     header: &Header,

@@ -10,7 +10,7 @@ const LEFT_ORDER: [u8; 80] = [
     13, 3, 7, 15, 14, 5, 6, 2, 4, 0, 5, 9, 7, 12, 2, 10, 14, 1, 3, 8, 11, 6, 15, 13,
 ];
 
-// The same of the right line.
+// The order of the right line.
 const RIGHT_ORDER: [u8; 80] = [
     5, 14, 7, 0, 9, 2, 11, 4, 13, 6, 15, 8, 1, 10, 3, 12, 6, 11, 3, 7, 0, 13, 5, 10, 14, 15, 8, 12,
     4, 9, 1, 2, 15, 5, 1, 3, 7, 14, 6, 9, 11, 8, 12, 2, 10, 0, 4, 13, 8, 6, 4, 1, 3, 11, 15, 0, 5,
@@ -24,7 +24,7 @@ const LEFT_SHIFTS: [u32; 80] = [
     15, 9, 8, 9, 14, 5, 6, 8, 6, 5, 12, 9, 15, 5, 11, 6, 8, 13, 12, 5, 12, 13, 14, 11, 8, 5, 6,
 ];
 
-// The same of the right line.
+// The shifts of the right line.
 const RIGHT_SHIFTS: [u32; 80] = [
     8, 9, 9, 11, 13, 15, 15, 5, 7, 7, 8, 11, 14, 14, 12, 6, 9, 13, 15, 7, 12, 8, 9, 11, 7, 7, 12,
     7, 6, 15, 13, 11, 9, 7, 15, 11, 8, 6, 6, 14, 12, 13, 5, 14, 13, 13, 7, 5, 15, 5, 8, 11, 14, 14,
@@ -40,7 +40,7 @@ const LEFT_CONSTANTS: [u32; 5] = [
     0xA953_FD4E,
 ];
 
-// The same of the right line.
+// The constants of the right line.
 const RIGHT_CONSTANTS: [u32; 5] = [
     0x50A2_8BE6,
     0x5C4D_D124,

@@ -22,7 +22,7 @@ pub fn json_text(alloc: Global, listing: Listing) -> Result<String, AllocError>
     unsteering(alloc, written.as_str())
 }
 
-/// The same with no character escaped that needn't be.
+/// The object's text, with no character escaped that needn't be.
 fn written_text(alloc: Global, listing: Listing) -> Result<String, AllocError>
     ensures { IfOk result (λ text. IsWrittenText listing (string_bytes text)) }
 {

@@ -21,7 +21,7 @@ pub fn underway_json(alloc: Global, listing: UnderwayListing) -> Result<String, 
     unsteering(alloc, written.as_str())
 }
 
-/// The same with no character escaped that needn't be.
+/// The object's text, with no character escaped that needn't be.
 fn written_text(alloc: Global, listing: UnderwayListing) -> Result<String, AllocError>
     ensures { IfOk result (λ text. IsWrittenUnderway listing.header listing.copies (content listing.meta) (string_bytes text)) }
 {

@@ -24,7 +24,7 @@ pub(crate) fn under_way_value(alloc: Global, meta: &Underway) -> Result<Value, A
     Ok(Value::from(members))
 }
 
-/// Where the part in hand lies; null where there is none.
+/// The place of the part in hand; null if there is none.
 fn hotzone_value(alloc: Global, part: Option<Hotzone>) -> Result<Value, AllocError>
     ensures { IfOk result (λ v. view v ≡ hotzone_value part) }
 {

@@ -10,7 +10,7 @@ use Rattle.luks_c_answers.specs.Numbers.{edit_number}
 use Rattle.luks_c_answers.proofs.NumberFacts.{edit_number_other, edit_number_range, edit_number_usage}
 use Rattle.luks_c.proofs.needing.refuse_text.Goals as goal
 
--- what isn't the device's failure nor want of memory is the first fault that is seen without a keyslot
+-- what isn't the device's failure nor a failed allocation is the first fault that is seen without a keyslot
 first_of : (v : List ℕ) (payload : Data) (f : EditFault) → is_edit_failure f ≡ false → edit_number f ≢ 103 → IsUntold v payload Repair f
     → IsLeast edit_key (IsNeedFault v payload Repair) f
 first_of v payload fault.Device own other so = cc

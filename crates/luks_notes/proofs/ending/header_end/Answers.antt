@@ -1,4 +1,4 @@
--- Where both copies end of the header that was chosen.
+-- The end of both copies of the header that was chosen.
 use Rattle.std.proofs.Common.{◌+◌, ◌∙◌, subst, sym, ap}
 use Rattle.luks2_header.specs.Selection.{IsSelected}
 use Rattle.luks2_header.specs.declared.selection.Selected.TheVariants.{V2}

@@ -8,7 +8,7 @@ use Rattle.luks_trials.proofs.OptionFacts.{none_where}
 use Rattle.luks_trials.proofs.TallyFacts.{counts_then}
 use Rattle.luks_searching.proofs.searching1.by_fields.Goals as goal
 
--- each field stands in the list
+-- each field is in the list
 by_place : (P : Field → Type 0) → ((k : ℕ) → k < 6 → P (slice_index_or FIELDS k KeyBytes)) → (field : Field) → P field
 by_place P all KeyBytes = all 0 (lit< tt)
 by_place P all DigestSalt = all 1 (lit< tt)

@@ -1,4 +1,4 @@
--- What is shown is the text of the token that stands there.
+-- What is shown is the text of the token that is there.
 use Rattle.std.proofs.Common.{◌≡◌, ◌∙◌, ap, rules, string_bytes, Some}
 use Rattle.std.proofs.lemmas.Str.{IsUtf8-string_bytes}
 use Rattle.serde_json.specs.View.{view}

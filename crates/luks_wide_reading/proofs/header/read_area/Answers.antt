@@ -1,4 +1,4 @@
--- Where something is under way the area is judged by the rules of that.
+-- If something is under way the area is judged by the rules of that.
 use Rattle.std.proofs.Common.{refl}
 use Rattle.luks_wide_reading.proofs.header.read_area.Goals as goal
 

@@ -3,7 +3,7 @@ use Rattle.luks_area.specs.Ranges.{part}
 use Rattle.luks_given.specs.Planned.{planned_bytes}
 use Rattle.luks_given.proofs.planned_writes.PlannedWrites.changing.Given as goal
 
--- the bytes behind these stand there
+-- the bytes behind these are there
 abbrev pub invariant-loop-len : goal.invariant-loop-len
 invariant-loop-len g l = record {
   most : l.len ≤ length l.from;
