@@ -1,32 +1,35 @@
 # luks: what can be done here, each by `make TARGET`.
 #
 #   demo      run the main job, unproved: luks check on the sample image; ends with 'accepted luks1 areas 10'
-#   test      run the tests and the transcripts, unproved, all that fit into some ten minutes; first it looks that the texts, the lists and the
-#             wrong bodies fit to the code
-#   build     prove and build the program, and leave it at bin/luks
+#   program   compile the program without a proof, in a minute or two: bin/luks-unproved
+#   test      run all tests, unproved, in some minutes: the suite of tests/ over bin/luks-unproved, and the tests that are written in Rattle. First it
+#             looks that texts, lists, wrong bodies and the budget of lines are as they should be
+#   build     prove and build the program: bin/luks
 #   library   prove and build libluks, the calls for C and Python: bin/libluks.so.1 and bin/libluks.a
-#   gate      the merge gate: every proof from nothing, the wrong bodies that must be refused, each test, each program; and what it took:
-#             processor time by crate for its proof, its tests and its wrong bodies, and at its end the sums
-#   quick     between gates: proofs and tests of the crates that changed since BASE (the last commit) and of what stands on them
-#   plants    between gates: the wrong bodies of CRATE (of all), planted together, each refused at its own function; whether each can be planted,
-#             tools/plants --readable says in seconds
-#   texts     make of docs/commands.table what repeats it: the helps' texts, parts of the page and of COMMANDS, and the completions
-#   install   put the program into PREFIX/bin, its manual page into MANDIR, its completions into BASHCOMPDIR, ZSHCOMPDIR and FISHCOMPDIR
-#             (PREFIX is /usr/local, the others are Debian's places under it, for fish /etc/fish/completions, since fish looks into none there;
-#             all under DESTDIR where that is given)
-#   uninstall  take these away again, and those of install-library
-#   install-library  put libluks, its header, libluks.pc and the Python module under PREFIX; PYTHONDIR is the module's folder, where Debian's Python
-#             looks if it isn't given. Without DESTDIR the loader's list is made anew (LDCONFIG)
-#   dist      the archive dist/luks-VERSION-linux-x86_64.tar.gz: the program, also static, its pages, libluks and install.sh, for a system without rt
-#   deb       the package dist/luks_VERSION_amd64.deb, for Debian, and those of libluks: libluks1, libluks-dev and python3-luks; beside all,
-#             dist/SHA256SUMS has their sums
+#   gate      the merge gate: every proof from nothing, the suite over the proved program, and the wrong bodies that must be refused. It prints the
+#             processor time that each crate took, and the sums
+#   quick     between gates: prove and test the crates that changed since BASE (the last commit), and what depends on them
+#   plants    between gates: try the wrong bodies of CRATE (of all crates), and keep in tools/plants-refused which were refused;
+#             tools/plants --readable says in seconds whether each can be planted
+#   texts     make all texts that repeat docs/commands.table: the helps, parts of the manual page and of COMMANDS, and the completions
+#   install   put the program into PREFIX/bin, its manual page into MANDIR, its completions into BASHCOMPDIR, ZSHCOMPDIR and FISHCOMPDIR. PREFIX is
+#             /usr/local, the others are Debian's places under it; for fish it is /etc/fish/completions, since fish looks into no folder under
+#             /usr/local. All are under DESTDIR if that is given
+#   uninstall  remove these, and those of install-library
+#   install-library  put libluks, its header, libluks.pc and the Python module under PREFIX. PYTHONDIR is the module's folder; if it isn't given, that
+#             is where Debian's Python looks. Without DESTDIR the loader's list is made anew (LDCONFIG)
+#   dist      the archive dist/luks-VERSION-linux-x86_64.tar.gz for a system without rt: the program, also linked statically, its pages, libluks and
+#             install.sh
+#   deb       the package dist/luks_VERSION_amd64.deb for Debian, and those of libluks: libluks1, libluks-dev and python3-luks. dist/SHA256SUMS has
+#             the sums of all
 #   bench     times and memory, beside other implementations
-#   interop   volumes that cryptsetup makes, checked and opened by bin/luks; each command of docs/RESCUE.md; the manual page; libluks; both packages
-#   clean     what the others made
+#   interop   compare with cryptsetup: volumes that it makes are checked and opened by bin/luks; also each command of docs/RESCUE.md, the manual page,
+#             libluks and both packages
+#   clean     remove what the others made
 #   help      this list
 #
-# The first target that needs the program proves everything first: README says how long that takes.
-# Rattle's command rt proves and builds; it writes its progress on standard error, and `rt run` ends with the program's own status.
+# The first target that needs the proved program proves everything first: README says how long that takes.
+# Rattle's command rt proves and builds. It writes its progress on standard error, and `rt run` ends with the program's own status.
 
 RT ?= rt
 PREFIX ?= /usr/local
@@ -43,7 +46,7 @@ FISHCOMPDIR ?= $(if $(filter /usr/local,$(PREFIX)),/etc/fish/completions,$(PREFI
 
 SOURCES := crates.txt $(shell find crates -name out -prune -o -type f -print)
 
-.PHONY: help demo build library install-library test gate quick plants texts install uninstall dist deb bench interop clean toolchain
+.PHONY: help demo program build library install-library test gate quick plants texts install uninstall dist deb bench interop clean toolchain
 
 help:
 	@sed -n '/^#/!q; s/^#$$//p; s/^# //p' $(firstword $(MAKEFILE_LIST))
@@ -51,7 +54,10 @@ help:
 demo: toolchain
 	@RT="$(RT)" tools/demo
 
-# The program that is run here only prints its help: its status is 0 exactly where it was proved, built and runs.
+program: toolchain
+	@RT="$(RT)" tools/program
+
+# The program that is run here only prints its help: its status is 0 exactly if it was proved and built, and runs.
 define build_program
 	@RT="$(RT)" tools/prove luks
 	cd crates/luks && RT="$(RT)" ../../tools/rt run -- --help >/dev/null
@@ -73,7 +79,7 @@ bin/libluks.so.1: $(SOURCES) tools/library $(wildcard library/*) CHANGELOG.md
 	@$(MAKE) --no-print-directory library
 
 test: toolchain
-	@RT="$(RT)" tools/together
+	@RT="$(RT)" tools/test
 
 gate: toolchain
 	@RT="$(RT)" tools/times

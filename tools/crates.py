@@ -9,6 +9,8 @@ TOP = os.path.dirname(os.path.dirname(os.path.abspath(__file__)))
 RT = os.environ.get("RT", "rt")
 # the same, by which each sum is taken once
 QUICK_RT = os.path.join(TOP, "tools", "rt")
+# the folders of a crate that its proof goes by
+PARTS = ("src", "specs", "proofs")
 
 
 def lines():
@@ -18,10 +20,15 @@ def lines():
     return {line.split()[0].rstrip(":"): line for line in wanted if ":" in line}
 
 
+def uses():
+    """Each crate with the libraries that its line names."""
+    return {crate: line.partition(":")[2].split() for crate, line in lines().items()}
+
+
 def libraries():
     """Each crate with the crates of this repository that its line names."""
-    named = lines()
-    return {crate: [low for low in line.partition(":")[2].split() if low in named] for crate, line in named.items()}
+    named = uses()
+    return {crate: [low for low in lows if low in named] for crate, lows in named.items()}
 
 
 def below(uses, top):
@@ -51,12 +58,17 @@ def out(crate, top=TOP):
     return os.path.join(folder(crate, top), "out")
 
 
-def files(crate):
-    """The files that a crate's proof goes by."""
-    for part in ("src", "specs", "proofs"):
+def files(crate, parts=PARTS):
+    """The files in these folders of a crate."""
+    for part in parts:
         for at, folders, names in os.walk(os.path.join(folder(crate), part)):
             folders.sort()
             yield from (os.path.join(at, name) for name in sorted(names))
+
+
+def read(*path):
+    with open(os.path.join(*path), errors="replace") as it:
+        return it.read()
 
 
 def say(text):
@@ -84,10 +96,10 @@ def kit():
     return subprocess.run([RT, "version"], stdout=subprocess.PIPE, check=True).stdout
 
 
-def own_sum(crate):
-    """A sum of the crate's files and its line of crates.txt."""
+def own_sum(crate, parts=PARTS):
+    """A sum of the files in these folders of a crate, and of its line of crates.txt."""
     total = hashlib.sha256(repr((kit(), lines()[crate])).encode())
-    for file in files(crate):
+    for file in files(crate, parts):
         with open(file, "rb") as it:
             total.update(repr((os.path.relpath(file, folder(crate)), it.read())).encode())
     return total.hexdigest()
