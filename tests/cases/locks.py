@@ -98,7 +98,7 @@ def test_another_program_has_the_name_for_a_while(run):
     settings = block()
     os.makedirs("@system" + FOLDER)
     devices.put_text("@system" + NAMED, "")
-    ran = run.luks(*WRITES, devices="v:-:-", clock=1, locks="held taken held", **settings)
+    ran = run.luks(*WRITES, devices="v:-:-", clock=1, locks="asked taken asked", **settings)
     once = ["flock exclusive", *NAME_CALLS, "flock exclusive"]
     calls = ["stat v", "open > v", "fstat ", "open < /sys/dev/block/7:3/ro", *once, "sleep 50", *once, *STILL_THERE, "fsync"]
     assert (opening(ran), outcome(ran)) == (calls, (0, [])), ran.log
@@ -173,7 +173,7 @@ def test_no_symbolic_link_is_followed(run):
 def test_which_lock_is_not_held_is_said(run):
     devices.lay("v")
     settings = block()
-    for deny, locks, owed in ((None, "unknown held", [NO_LOCKS]), (errno.EACCES, "held", [NOT_HELD]), (errno.EACCES, "unknown", [NO_LOCKS, NOT_HELD])):
+    for deny, locks, owed in ((None, "unknown asked", [NO_LOCKS]), (errno.EACCES, "asked", [NOT_HELD]), (errno.EACCES, "unknown", [NO_LOCKS, NOT_HELD])):
         ran = run.luks(*READS, clock=1, locks=locks, deny=f"{NAMED}:{deny}" if deny else None, **settings)
         assert outcome(ran) == (0, owed), ran.err
-    assert outcome(run.luks(*READS, locks="held taken", clock=1, **settings)) == (0, [MAYBE_EDITED])
+    assert outcome(run.luks(*READS, locks="asked taken", clock=1, **settings)) == (0, [MAYBE_EDITED])
