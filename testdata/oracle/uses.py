@@ -9,8 +9,11 @@ UBERBLOCKS = [label + 131072 + 1024 * it for label in (0, 262144) for it in rang
 
 
 def at(place, *texts):
-    """Whether one of these stands there, wholly inside."""
-    return lambda front: any(front[place:place + len(text)] == text for text in texts)
+    """Whether one of these stands there, wholly inside. The function has the place and the texts."""
+    def stands(front):
+        return any(front[place:place + len(text)] == text for text in texts)
+    stands.place, stands.texts = place, texts
+    return stands
 
 
 def has_uberblock(front):
