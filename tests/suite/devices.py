@@ -2,7 +2,7 @@
 import os
 import shutil
 
-from suite import samples
+from suite.samples import small
 from suite.disks import Disk
 
 SYSTEM = "@system"
@@ -10,7 +10,7 @@ SYSTEM = "@system"
 
 def lay(path, name="luks2", parts=(), length=66048):
     """Makes the file with the small volume of this name, and these parts over it."""
-    return Disk(path, length, [*(samples.small(name) if name else ()), *parts])
+    return Disk(path, length, [*(small(name) if name else ()), *parts])
 
 
 def put_text(path, text):
