@@ -166,7 +166,7 @@ def test_no_symbolic_link_is_followed(run):
     os.unlink("real/L_7:3")
     os.symlink(os.path.abspath("real"), "@system" + FOLDER)
     assert outcome(run.luks(*WRITES, **settings)) == (0, [NOT_HELD])
-    with open("aim", encoding="ascii") as aim:
+    with open("aim", encoding="utf-8") as aim:
         assert aim.read() == "aim" and os.listdir("real") == []
 
 

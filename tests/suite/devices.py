@@ -15,7 +15,7 @@ def lay(path, name="luks2", parts=(), length=66048):
 
 def put_text(path, text):
     os.makedirs(os.path.dirname(path) or ".", exist_ok=True)
-    with open(path, "w", encoding="ascii") as file:
+    with open(path, "w", encoding="utf-8") as file:
         file.write(text)
 
 
