@@ -1,14 +1,15 @@
 """What a command writes to the file V and when it syncs it, by strace, and what a power cut may leave of it: for `power` and `half_made`."""
 import hashlib
 import itertools
+import multiprocessing
 import os
 import random
 import re
 import shutil
-import subprocess
 import sys
+import tempfile
 
-from common import ran
+from common import Run, ran, status
 
 SECTOR = 512
 MOST = 10
@@ -125,8 +126,34 @@ def states(image, writes, count):
         image = laid(image, pieces)
 
 
-def installed():
-    if shutil.which("strace") is None:
-        for words in (["apt-get", "update", "-qq"], ["apt-get", "install", "-y", "-qq", "strace"]):
-            if subprocess.run(words, stdout=subprocess.DEVNULL).returncode != 0:
-                sys.exit("cuts: apt-get can't install strace")
+# --- who judges it
+
+class Reader:
+    """Asks of a state what `ask` of its kind says, in a folder of its own."""
+
+    def __init__(self, folder, program, volume):
+        self.program, self.folder = program, tempfile.mkdtemp(dir=folder)
+        for name, copy in ((volume, "V"), *((word, word) for word in Run.passphrases)):
+            shutil.copyfile(os.path.join(folder, name), os.path.join(self.folder, copy))
+
+    def status(self, *words):
+        return status(words, self.folder)
+
+    def lay(self, front):
+        with open(os.path.join(self.folder, "V"), "r+b") as volume:
+            volume.write(front)
+
+
+def begin(kind, given):
+    global reader
+    reader = kind(*given)
+
+
+def ask(front):
+    return reader.ask(front)
+
+
+def asked(kind, given, fronts):
+    """What a reader of this kind tells of each state; each process has one."""
+    with multiprocessing.Pool(len(os.sched_getaffinity(0)), begin, (kind, given)) as pool:
+        yield from pool.imap(ask, fronts, 4)
