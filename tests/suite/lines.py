@@ -1,4 +1,4 @@
-"""Steps about command lines that are answered by a text, and about explained faults."""
+"""Steps that look into what a command answers, and steps about explained faults."""
 from suite.looks import yes
 
 ESCAPES = {"n": "\n", "s": " "}
@@ -19,13 +19,11 @@ def unescaped(text):
     return found
 
 
-def usage(session, line, text):
-    """Which output has the text that answers the words, and the status; of standard error also its first word."""
+def briefly(session, line, text):
+    """Runs a command whose words tell all: prints which output it answers on, and the status; of standard error also the first word."""
     session.says(line)
-    ran = session.program.run(text.split(" ")[1:])
-    if ran.opened or ran.out and ran.err:
-        raise ValueError("the words are answered by no text alone")
-    session.text = (ran.out or ran.err).decode()
+    ran = session.program.run(text.split(" ")[1:], clock=1)
+    session.text = (ran.out + ran.err).decode()
     session.emit(f"stdout {ran.status}\n" if ran.out else f"stderr {ran.status} {session.text.partition(' ')[0]}\n")
 
 
@@ -65,4 +63,4 @@ def faults(session, line, widths):
         session.emit(f"{fault} {yes(fits)}\n")
 
 
-STEPS = {"usage": usage, "has": has, "within": within, "name": name, "faults": faults}
+STEPS = {"briefly": briefly, "has": has, "within": within, "name": name, "faults": faults}
