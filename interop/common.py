@@ -205,3 +205,13 @@ def started(kind=Run, *more):
     """A Run of this kind, in a folder that is taken away at the end."""
     with tempfile.TemporaryDirectory(dir=room()) as folder:
         yield kind(program(), folder, *more)
+
+
+def of_oracle(*commands):
+    """Runs these scripts of testdata/oracle with their words; each has to end with status 0."""
+    told = Compared()
+    for name, *more in commands:
+        done = ran([os.path.join(ORACLE, name), *more], text=True, timeout=None)
+        print(f"{name}: {done.stdout[-200:].strip() if done.returncode == 0 else done.stdout + done.stderr}", flush=True)
+        told.same(name, 0, done.returncode)
+    told.ended(unit="as owed")
