@@ -3,12 +3,11 @@ import hashlib
 import os
 
 from suite import failing
-from suite.commands import run_command
+from suite.commands import DEVICES, run_command
 from suite.disks import front_of
 from suite.making import unescaped
-from suite.program import TARGET, VOLUME, put
+from suite.program import put
 
-DEVICES = {"volume": VOLUME, "target": TARGET}
 MOST_RUNS = 100000
 
 
@@ -41,17 +40,25 @@ def fronts(session):
 
 
 def probe(session, _, rest):
-    slot, passphrase = rest.split(" ", 1)
-    session.probes.append((slot, passphrase))
+    """What is asked after each run of the next `each`: of the volume, or behind `target` of the target."""
+    session.probes.append(rest)
 
 
-def opens(session, slot, passphrase):
-    """Whether this keyslot opens by now; older ciphers and hashes are accepted."""
-    key = hashlib.sha256(repr(session.volume.extents()).encode()).digest(), slot, passphrase
+def holds(session, question):
+    """Whether `check` accepts the device (`accepted`; a target as a detached header), or the keyslot of this number opens by now (`N PASSPHRASE`): of any
+    cipher and hash, and by Argon2 with up to 2 MiB."""
+    is_target = question.startswith("target ")
+    disk = session.target if is_target else session.volume
+    key = hashlib.sha256(repr(disk.extents()).encode()).digest(), question
     if key not in session.opened:
-        put("@probe", unescaped(passphrase))
-        ran = session.program.run(["open", session.volume.path, "--passphrase", "@probe", "--slot", slot, "--older"])
-        session.opened[key] = ran.status == 0
+        asked = question.removeprefix("target ")
+        if asked == "accepted":
+            words = ["check", disk.path, *["--detached"] * is_target]
+        else:
+            slot, passphrase = asked.split(" ", 1)
+            put("@probe", unescaped(passphrase))
+            words = ["open", disk.path, "--passphrase", "@probe", "--slot", slot, "--older", "--memory", "2"]
+        session.opened[key] = session.program.run(words).status in (0, 3)
     return session.opened[key]
 
 
@@ -62,7 +69,7 @@ class Group:
         self.told, self.opened, self.kept = told, opened, kept
 
     def text(self):
-        probes = "".join(f", {slot} {passphrase}" for slot, passphrase in self.opened)
+        probes = "".join(f", {question}" for question in self.opened)
         return self.told.text() + (b" kept" if self.kept else b"") + probes.encode() + b"\n"
 
 
@@ -75,7 +82,7 @@ def each(session, line, rest):
     for call in range(MOST_RUNS):
         told = run_command(session, text, {**trouble, "fail": [(device, f"call {call} {left}")]})
         failures = session.asked.failures[DEVICES[device]]
-        kept, opened = fronts(session) == old, [it for it in session.probes if opens(session, *it)]
+        kept, opened = fronts(session) == old, [it for it in session.probes if holds(session, it)]
         if groups and groups[-1].told.key() == told.key() and groups[-1].opened == opened:
             groups[-1].kept = groups[-1].kept and kept
         else:
@@ -164,26 +171,46 @@ def rooms(session, line, rest):
     session.emit(whole.text() + b"\n")
 
 
+# what a run may say that is refused memory, beside what the run says that isn't
+OF_MEMORY = (b": no memory to read it\n", b": memory was refused: end other programs, or try it on a machine with more\n",
+             b"memory for the command line was refused\n")
+
+
+class Refused:
+    """The runs that were refused memory: what they said, and whether they left the volumes as they were, or as a run that is refused none."""
+
+    def __init__(self, old):
+        self.old, self.said, self.left = old, set(), []
+
+    def add(self, told, left):
+        self.said.update(line for line in told.err.splitlines(True) if line.endswith(b"\n") and not line.endswith(OF_MEMORY))
+        self.left += [left] if left != self.old else []
+
+    def text(self, told, after):
+        """What is printed of them; what no run should say or leave is printed too."""
+        text = b"".join(b"! " + line for line in sorted(self.said - set(told.err.splitlines(True))))
+        return b"no memory\n" + text + b"= 4" + (b" kept" if all(left == after for left in self.left) else b"") + b"\n"
+
+
 def memory(session, line, rest):
-    """With no memory, and then one allocation more at a time, until it isn't refused any; `memory 0` is with none alone."""
+    """With no memory, and then one allocation more at a time, until none is refused; `memory 0` is with none alone."""
     session.says(line)
     most, text = rest.split(" ", 1)
     text = text.removeprefix("$ ")
-    trouble, before, old, refused = failing.take_trouble(session), Before(session), fronts(session), None
+    trouble, before, old = failing.take_trouble(session), Before(session), fronts(session)
+    refused = Refused(old)
     for number in range(MOST_RUNS):
-        told = run_command(session, text, trouble, memory=number)
-        kept = fronts(session) == old
+        told, after = run_command(session, text, trouble, memory=number), fronts(session)
         if not told.is_refused_memory():
             break
+        refused.add(told, after)
         before.put_back()
-        if told.err.endswith(b": no memory to read it\n"):
-            told.err = b""
-        told.out = b"no memory\n"
-        refused = Group(told if refused is None or told.err else refused.told, [], kept and (refused is None or refused.kept))
         if int(most) == 0:
             break
-    for group in filter(None, (refused, None if told.is_refused_memory() else Group(told, [], kept))):
-        session.emit(group.text())
+    if number or told.is_refused_memory():
+        session.emit(refused.text(told, after))
+    if not told.is_refused_memory():
+        session.emit(Group(told, [], after == old).text())
 
 
 STEPS = {"probe": probe, "each": each, "torn": torn, "rooms": rooms, "memory": memory}
