@@ -4,7 +4,7 @@
      SHIM_LOG      a file that gets a line for each call (see `note`)
      SHIM_BYTES    a file that gets the bytes of each write to a device, in their order
      SHIM_DEVICES  "volume:target:random": the files' names, as the command names them; `-` is none
-     SHIM_FAIL     "volume|target call|read|write|flush N LEFT [always]": the call of number N (counted from 0) fails, or the first read, write or
+     SHIM_FAIL     "volume|target|watch call|read|write|flush N LEFT [always]": the call of number N (counted from 0) fails, or the first read, write or
                    flush after N flushes; LEFT is what a failing write leaves; with `always` all later calls fail too
      SHIM_READS    "volume|target MOST FROM TO FROM TO": so many bytes of these parts may be read, and nothing is written
      SHIM_DENY     "name:errno,name:errno": opening the file fails
@@ -45,7 +45,8 @@
 #define FILES 1024
 #define LINE 4096
 
-enum kind { OTHER, VOLUME, TARGET, RANDOM, BROKEN };
+/* WATCH is a device that the program opens once more while it has it open: it looks whether what it writes turns out to be what it reads. */
+enum kind { OTHER, VOLUME, TARGET, WATCH, RANDOM, BROKEN };
 enum call { ANY, READ, WRITE, FLUSH };
 enum left { OLD, NEW, ONES, HALF, LOST, LOST_BEFORE, LOST_EVEN, LOST_ODD, LOST_ONES, SUCCEEDS = -1 };
 static const char *const left_names[] = {"old", "new", "ones", "half", "lost", "lost-before", "lost-even", "lost-odd", "lost-ones", NULL};
@@ -71,7 +72,7 @@ static long memory = -1;
 static int has_own_clock, lists_system, counts_opening;
 static int log_file = -1, bytes_file = -1;
 
-static int device_of(const char *word) { return word[0] == 'v' ? VOLUME : TARGET; }
+static int device_of(const char *word) { return word[0] == 'v' ? VOLUME : word[0] == 't' ? TARGET : WATCH; }
 
 static void set_failing(const char *text)
 {
@@ -151,12 +152,13 @@ static void read_settings(void)
     counts_opening = getenv("SHIM_OPENING") != NULL;
 }
 
-/* --- the log: a line for each call of a device (D is 1 for the volume and 2 for the target)
+/* --- the log: a line for each call of a device (D is 1 for the volume, 2 for the target and 3 for the watch)
 
      r D AT LEN, w D AT LEN, f D   a read, a write, a flush
      o D                           the flush that a command makes when it opens the device
      x D N                         the call of number N failed
      R LEN                         so many random bytes were read
+     m                             memory was refused
      open < NAME, open > NAME      a file was opened to be read, or to be written
      fsync, fdatasync, sleep MS    with SHIM_SYSTEM
      truncate D LEN                a file got this length */
@@ -181,14 +183,19 @@ extern void *__libc_malloc(size_t), *__libc_realloc(void *, size_t), *__libc_cal
 
 static int refuses_memory(void)
 {
+    static int is_noted;
+
     if (memory < 0)
         return 0;
-    if (memory == 0) {
-        errno = ENOMEM;
-        return 1;
+    if (memory > 0) {
+        memory--;
+        return 0;
     }
-    memory--;
-    return 0;
+    if (!is_noted)
+        note("m\n");
+    is_noted = 1;
+    errno = ENOMEM;
+    return 1;
 }
 
 void *malloc(size_t size) { return refuses_memory() ? NULL : __libc_malloc(size); }
@@ -228,11 +235,14 @@ static void cut_other(const char *path)
 
 static enum kind kind_of(const char *path)
 {
+    static const enum kind named[] = {VOLUME, TARGET, RANDOM};
     enum kind found = OTHER;
 
     for (int i = 0; i < 3; i++)
         if (device_names[i][0] && strcmp(device_names[i], path) == 0)
-            found = (enum kind)(VOLUME + i);
+            found = named[i];
+    if (found != OTHER && found != RANDOM && memchr(kinds, found, FILES) != NULL)
+        found = WATCH;
     return breaking.name[0] && strcmp(breaking.name, path) == 0 ? BROKEN : found;
 }
 
@@ -471,10 +481,10 @@ static void leave(int file, off_t at, const void *bytes, size_t length, enum lef
 
 /* --- calls of the devices */
 
-static long calls[3], flushes[3];
-static int is_dead[3];
+static long calls[WATCH + 1], flushes[WATCH + 1];
+static int is_dead[WATCH + 1];
 
-static int is_device(int file) { return file >= 0 && file < FILES && (kinds[file] == VOLUME || kinds[file] == TARGET); }
+static int is_device(int file) { return file >= 0 && file < FILES && kinds[file] >= VOLUME && kinds[file] <= WATCH; }
 
 static int fault(void)
 {

@@ -6,10 +6,11 @@ import re
 from suite import failing
 from suite.disks import Disk
 from suite.making import new_path
-from suite.program import put
+from suite.program import TARGET, VOLUME, WATCH, put
 from suite.words import Words
 
 SECRET = 8
+DEVICES = {"volume": VOLUME, "target": TARGET, "watch": WATCH}
 
 
 def begin(session):
@@ -54,6 +55,15 @@ def secrets(files):
     return [front("passphrase", 128), front("new", 128), front("random", 32), bytes(range(32))]
 
 
+def without_range(ran, names):
+    """Takes the line away that tells the bytes of the first read that failed, on standard error and in an object, if these are the ones that failed."""
+    for name, device in DEVICES.items():
+        for at, length in ran.unread[device][:1]:
+            line = f"luks: {names.get(name)}: bytes {at} to {at + length - 1} couldn't be read".encode()
+            ran.err = ran.err.replace(line + b"\n", b"", 1)
+            ran.out = ran.out.replace(b',"' + line + b'"', b"", 1)
+
+
 # --- its files
 
 class Laying:
@@ -65,7 +75,8 @@ class Laying:
         self.args, self.denied, self.moved, self.made, self.lock = words.words, [], [], [], None
         self.settings = failing.settings(trouble, self.names)
         self.disks = {"volume": session.volume, "target": session.target}
-        self.makes_target = words.keeps() and "over" not in words.flags and self.unread.get("target") != "exists"
+        self.is_block = "block" in trouble
+        self.makes_target = words.keeps() and not self.is_block and "over" not in words.flags and self.unread.get("target") != "exists"
 
     def lay(self):
         for name in ("passphrase", "new", "random", "volume", "target"):
@@ -76,6 +87,8 @@ class Laying:
             # the key's file of `format` is the new one
             put(self.names["key"], self.session.files["new"] or b"")
             self.made.append(self.names["key"])
+        if self.is_block:
+            self.as_block_device(self.names["target"])
         if self.denied:
             self.settings["deny"] = ",".join(self.denied)
         # the clock is the shim's, so that times that are told are always alike
@@ -91,11 +104,7 @@ class Laying:
         elif name == "target" and file == self.names["volume"]:
             return
         elif name == "target" and self.makes_target:
-            if self.words.command == "backup" and self.session.target:
-                self.as_block_device(file)
-                self.lay_disk(name, file)
-            else:
-                self.clear(file)
+            self.clear(file)
         elif name in self.disks:
             self.lay_disk(name, file)
         elif self.session.files[name] is not None:
@@ -123,21 +132,20 @@ class Laying:
             os.rename(disk.path, file)
             self.moved.append((disk.path, file))
 
-    def as_block_device(self, file):
-        """The target has a length of its own: it looks like a block device, over which only --over writes."""
-        self.settings["block"], self.settings["root"] = f"{file}:7:3", os.getcwd() + "/@system"
+    def as_block_device(self, name):
+        """The file looks like a block device."""
+        self.settings["block"], self.settings["root"] = f"{name}:7:3", os.getcwd() + "/@system"
         os.makedirs("@system/run", exist_ok=True)
         os.makedirs("@system/sys/dev/block/7:3", exist_ok=True)
         put("@system/sys/dev/block/7:3/ro", b"0\n")
-        self.args = [*self.args, "--over"]
 
     # what stands in a file's place if it isn't read
 
     def absent(self, name, file):
-        if name == "random":
-            self.write(file, b"")
-        elif name in ("passphrase", "new"):
-            self.args, self.names[name] = self.words.without(name), ""
+        """There are no random bytes."""
+        if name != "random":
+            raise ValueError("only random bytes can be absent")
+        self.write(file, b"")
 
     def same_file(self, _, file):
         self.lay_disk("volume", self.names["volume"])
@@ -170,7 +178,7 @@ class Laying:
             if os.path.exists(file):
                 os.rename(file, path)
         target = self.names["target"]
-        if self.makes_target and "block" not in self.settings and os.path.isfile(target):
+        if self.makes_target and os.path.isfile(target):
             path = new_path(self.session)
             os.rename(target, path)
             if self.session.target:
@@ -191,6 +199,7 @@ def run_command(session, text, trouble=None, **settings):
     finally:
         laying.take_up()
     session.asked, session.left = ran, len(session.files["random"] or b"") - ran.taken
+    without_range(ran, laying.names)
     return Told(ran, secrets(session.files))
 
 

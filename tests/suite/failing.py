@@ -44,4 +44,4 @@ def settings(found, names):
     return made
 
 
-STEPS = {"unread": trouble, "broken": trouble, "fail": trouble, "reads": trouble, "room": trouble, "record": record}
+STEPS = {"unread": trouble, "broken": trouble, "fail": trouble, "reads": trouble, "room": trouble, "block": trouble, "record": record}

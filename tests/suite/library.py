@@ -1,52 +1,45 @@
-"""Steps that ask for keys and areas, by the commands that tell them."""
+"""Steps that ask for a keyslot's key, by the command that writes it to a file."""
 import os
 
 from suite.program import put, whole
 
 
-def options(rest):
-    """The options of `open`, by the numbers and the word `older` behind a step."""
-    *numbers, kib = [it for it in rest.split(" ") if it != "older"]
-    found = ["--slot", numbers[0]] if numbers else []
-    found += ["--memory", str(int(kib) // 1024)] if int(kib) >= 1024 else []
-    return found + (["--older"] if rest.endswith("older") else [])
+def options(slot, rest):
+    """The options of `open` and `key`, by `KIB` or `KIB older`; KIB is 0 or whole MiB."""
+    kib, _, older = rest.partition(" ")
+    if int(kib) % 1024:
+        raise ValueError("memory is given in whole MiB")
+    found = ["--slot", slot] if slot else []
+    return found + (["--memory", str(int(kib) // 1024)] if int(kib) else []) + (["--older"] if older else [])
+
+
+def ask(session, word, *words):
+    put("@pass", session.files["passphrase"] or b"")
+    return session.program.run([word, session.volume.path, "--passphrase", "@pass", *words])
 
 
 def key_of(session, more):
-    """What `key` tells, and the key."""
-    session.program.run(["key", session.volume.path, "--passphrase", "@pass", "--to", "@key", *more])
-    key = whole("@key")
-    os.unlink("@key")
-    return f"key: {key.hex()}\n"
+    """The key that the passphrase opens; `none`, or the refusal."""
+    ran = ask(session, "key", "--to", "@key", *more)
+    if ran.status == 0:
+        key = whole("@key")
+        os.unlink("@key")
+        return f"key: {key.hex()}\n".encode()
+    return ran.out if ran.out.startswith(b"refused") or ran.status == 4 else b"none\n"
 
 
-def ask(session, word, rest, **settings):
-    put("@pass", session.files["passphrase"] or b"")
-    more = options(rest)
-    found = session.program.run(["open", session.volume.path, "--passphrase", "@pass", *more], **settings)
-    if found.status == 0:
-        session.emit(f"keyslot {found.out.split()[1].decode()}\n" if word == "unlock" else "")
-        session.emit(key_of(session, more))
-    elif found.out.startswith(b"refused") or found.status == 4:
-        session.emit(b"refused Memory\n" if found.out == b"no memory\n" else found.out)
-    else:
-        session.emit("none\n")
-
-
-def question(session, line, rest):
+def open_slot(session, line, rest):
     session.says(line)
-    ask(session, line.partition(" ")[0], rest)
+    session.emit(key_of(session, options(*rest.split(" ", 1))))
 
 
-def starved(session, line, rest):
-    """While there is no memory but for the command's words."""
+def unlock(session, line, rest):
+    """The keyslot that opens, and its key."""
     session.says(line)
-    ask(session, *rest.split(" ", 1), memory=1)
+    more = options(None, rest)
+    found = ask(session, "open", *more)
+    session.emit(b"keyslot %s\n" % found.out.split()[1] if found.status == 0 else b"")
+    session.emit(key_of(session, more))
 
 
-def areas(session, line, _):
-    session.says(line)
-    session.emit(session.program.run(["show", session.volume.path, "--map"]).out)
-
-
-STEPS = {"open": question, "unlock": question, "starved": starved, "areas": areas}
+STEPS = {"open": open_slot, "unlock": unlock}

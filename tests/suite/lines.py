@@ -54,7 +54,7 @@ def name(session, line, fault):
 
 
 def faults(session, line, widths):
-    """Of each fault in the list whether what is said of it, its name, and its meaning in the list are so narrow."""
+    """Whether each fault's explanation, its name, and its meaning in the list have at most so many bytes, the explanation in each line."""
     session.says(line)
     whole, most, meaning = map(int, widths.split(" "))
     for row in session.program.run(["explain"]).out.decode().splitlines():

@@ -5,7 +5,7 @@ import re
 
 from suite.disks import front_of
 from suite.making import unescaped
-from suite.trials import DEVICES
+from suite.commands import DEVICES
 
 
 def begin(session):

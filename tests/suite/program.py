@@ -12,7 +12,7 @@ import sys
 TESTS = os.path.dirname(os.path.dirname(os.path.abspath(__file__)))
 TOP = os.path.dirname(TESTS)
 SHIM_SOURCE = os.path.join(TESTS, "shim.c")
-VOLUME, TARGET = 1, 2
+VOLUME, TARGET, WATCH = DEVICES = 1, 2, 3
 SECONDS = 300
 
 
@@ -41,8 +41,9 @@ class Ran:
 
     def __init__(self, status, out, err, log):
         self.status, self.out, self.err, self.log = status, out, err, log
-        self.calls, self.failures = {VOLUME: [], TARGET: []}, {VOLUME: 0, TARGET: 0}
-        self.taken, self.opened = 0, []
+        self.calls, self.failures = {it: [] for it in DEVICES}, dict.fromkeys(DEVICES, 0)
+        self.unread = {it: [] for it in DEVICES}      # the reads that failed
+        self.taken, self.opened, self.lacked_memory = 0, [], False
         for line in log.splitlines():
             kind, _, rest = line.partition(" ")
             if kind in ("r", "w"):
@@ -51,7 +52,12 @@ class Ran:
             elif kind == "f":
                 self.calls[int(rest)].append(("f",))
             elif kind == "x":
-                self.failures[int(rest[0])] += 1
+                device = int(rest[0])
+                self.failures[device] += 1
+                if self.calls[device][-1][0] == "r":
+                    self.unread[device].append(self.calls[device][-1][1:])
+            elif kind == "m":
+                self.lacked_memory = True
             elif kind == "R":
                 self.taken += int(rest)
             elif kind == "open":

@@ -20,7 +20,7 @@ NEEDS = {**dict.fromkeys(("edit", "pad", "spaces", "size", "seqid", "label", "su
          **dict.fromkeys(files.STEPS, {"files"})}
 RUNS = ("$", "each", "torn", "rooms", "memory")
 # how many runs of the program a step is worth, about, so that long pieces begin first
-WEIGHTS = {"$": 1, "%": 3, "usage": 0.2, "each": 40, "torn": 60, "rooms": 40, "memory": 400, "numbers": 32, "cuts": 1500, "changes": 3000, "damage": 3000}
+WEIGHTS = {"$": 1, "%": 3, "briefly": 0.2, "each": 40, "torn": 60, "rooms": 40, "memory": 400, "numbers": 32, "cuts": 1500, "changes": 3000, "damage": 3000}
 
 
 def command_of(line):

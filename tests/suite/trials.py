@@ -177,18 +177,24 @@ OF_MEMORY = (b": no memory to read it\n", b": memory was refused: end other prog
 
 
 class Refused:
-    """The runs that were refused memory: what they said, and whether they left the volumes as they were, or as a run that is refused none."""
+    """The runs that were refused memory: what they said, and what those left that didn't leave the volumes as they were."""
 
     def __init__(self, old):
-        self.old, self.said, self.left = old, set(), []
+        self.old, self.said, self.left, self.answered, self.any = old, set(), [], [], False
 
     def add(self, told, left):
-        self.said.update(line for line in told.err.splitlines(True) if line.endswith(b"\n") and not line.endswith(OF_MEMORY))
         self.left += [left] if left != self.old else []
+        if not told.is_refused_memory():
+            # what was refused wasn't needed for the answer
+            self.answered.append((told.out, told.status))
+            return
+        self.any = True
+        self.said.update(line for line in told.err.splitlines(True) if line.endswith(b"\n") and not line.endswith(OF_MEMORY))
 
     def text(self, told, after):
-        """What is printed of them; what no run should say or leave is printed too."""
+        """What is printed of them: that they left the volumes as they were, or as the run that is refused none; and what no run should say."""
         text = b"".join(b"! " + line for line in sorted(self.said - set(told.err.splitlines(True))))
+        text += b"".join(b"answered %d %s" % (status, out) for out, status in self.answered if (out, status) != (told.out, told.status))
         return b"no memory\n" + text + b"= 4" + (b" kept" if all(left == after for left in self.left) else b"") + b"\n"
 
 
@@ -201,15 +207,15 @@ def memory(session, line, rest):
     refused = Refused(old)
     for number in range(MOST_RUNS):
         told, after = run_command(session, text, trouble, memory=number), fronts(session)
-        if not told.is_refused_memory():
+        if not session.asked.lacked_memory:
             break
         refused.add(told, after)
         before.put_back()
         if int(most) == 0:
             break
-    if number or told.is_refused_memory():
+    if refused.any:
         session.emit(refused.text(told, after))
-    if not told.is_refused_memory():
+    if not session.asked.lacked_memory:
         session.emit(Group(told, [], after == old).text())
 
 

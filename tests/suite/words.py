@@ -55,14 +55,3 @@ class Words:
         if self.command == "token" and self.operands[1:2] == ["import"]:
             found["passphrase"] = self.operands[2]
         return found
-
-    def without(self, file):
-        """The words without the options of this file."""
-        found, left = [], iter(self.words)
-        for word in left:
-            name, given, _ = word[2:].partition("=")
-            if not (word.startswith("--") and name in OPTIONS[file]):
-                found.append(word)
-            elif not given:
-                next(left)
-        return found
