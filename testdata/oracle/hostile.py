@@ -1,6 +1,5 @@
-"""Volumes that a stranger may hand over, and what is owed to them by reader.py and edits.py: volumes made of a number, and two whose headers are cut or changed.
-
-Each has its twin in the crate `luks_hostile_volumes`, which draws the same numbers in the same order and writes the same bytes.
+"""Hostile volumes: made of a number, or with a header that is cut or changed; the commands that are tried on each, and what reader.py, underway.py and edits.py
+answer. tests/suite/hostile.py asks the program the same.
 """
 import hashlib
 import struct
@@ -209,7 +208,7 @@ def first2():
     value["tokens"] = {"5": {"keyslots": ["2"], "type": "t"}}
     text = images.compact(value)
     area = sealed_area("sha256", pbkdf2("sha256", b"one", salt, 1000, 64), key, b"")
-    # the rest of each key area's sector is zeros in the twin, which has no use for what is sealed there
+    # the rest of each key area's sector is zeros: nothing reads it
     parts = [(32768 + 4096 * n, area[:64]) for n in range(3)]
     return images.volume(LENGTH2, *images.copies(text), *parts), text
 
@@ -346,9 +345,9 @@ def edited(volume, edit):
 
 
 def answers(step, answer=answer):
-    """Of a step of a transcript each place with the command, and the text that is answered; `answer` is as the function above.
+    """Each place and command that a step of a transcript asks about, with the text that is answered; `answer` is as the function above.
 
-    `numbers N` are four volumes made of the numbers from N on, with the sum of each volume, and of what each edit leaves; the other steps are a
+    `numbers N` takes four volumes made of the numbers from N on, with the sum of each volume, and of what each edit leaves; the other steps name a
     kind, and which of its places are taken.
     """
     word, name, *part = step.split(" ")
