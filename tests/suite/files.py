@@ -5,6 +5,7 @@ import os
 import shutil
 
 from suite.commands import Told
+from suite.disks import Disk
 from suite.filing import counted
 from suite.making import Header, pad
 from suite.program import put, whole
@@ -85,7 +86,10 @@ def counted_file(name, rest):
 
 
 def copy(name, other):
-    shutil.copyfile(other, name)
+    """Holes stay holes, so that a large file takes no more memory than what it has."""
+    disk = Disk.of_file(other)
+    extents, disk.path = disk.extents(), name
+    disk.restore(extents)
     shutil.copymode(other, name)
 
 
