@@ -41,8 +41,8 @@ class Beside(Run):
         self.dice = dice or random.Random(1)
 
     def planned(self, edit, name, detached=False, over=True):
-        """The random bytes that both get, the model's line, and the volume that it leaves. The program asks first how many bytes are needed, and opens no
-        keyslot if that is refused."""
+        """The random bytes that both get, the model's line, and the volume that it leaves. The program asks first how many bytes are needed, and
+        opens no keyslot if that is refused."""
         before = self.whole(name)
         needed = edits.needed(before, detached, edit, over=over)
         if isinstance(needed, str):
@@ -56,7 +56,8 @@ class Beside(Run):
         self.same(f"{what}: all bytes", True, self.whole(name) == left)
 
     def edit(self, what, edit, *words, detached=False, over=True, told=None):
-        """One edit, by the program and by the model; the model's line. `told` is what the program prints if it is done, if that isn't the model's line."""
+        """One edit, by the program and by the model; the model's line. `told` is what the program prints if it is done, if that isn't the model's
+        line."""
         drawn, line, left = self.planned(edit, words[1], detached, over)
         self.put("random", drawn)
         owed = line if told is None or line.startswith("refused") else told

@@ -95,14 +95,16 @@ def volume_key(folder, name, passphrase, more=""):
 
 def counted(call, words, folder):
     """How many such calls cryptsetup makes, which runs to its end."""
-    done = ran(["strace", "-f", "-qq", "-e", f"trace={call}", "-e", "signal=none", "cryptsetup", "--batch-mode", *words.split()], folder, text=True, errors="replace")
+    done = ran(["strace", "-f", "-qq", "-e", f"trace={call}", "-e", "signal=none", "cryptsetup", "--batch-mode", *words.split()], folder, text=True,
+               errors="replace")
     return sum(f"{call}(" in line for line in done.stderr.splitlines())
 
 
 def stopped(signal, call, when, words, folder):
     """The status of cryptsetup, which gets the signal at its call of this kind and number, counted from 1."""
     inject = f"inject={call}:signal={signal}:when={when}"
-    return status(["strace", "-f", "-qq", "-o", os.devnull, "-e", f"trace={call}", "-e", inject, "cryptsetup", "--batch-mode", *words.split()], folder)
+    return status(["strace", "-f", "-qq", "-o", os.devnull, "-e", f"trace={call}", "-e", inject, "cryptsetup", "--batch-mode", *words.split()],
+                  folder)
 
 
 def killed(call, when, words, folder):

@@ -24,7 +24,8 @@ TRACED = ("open,openat,read,lseek,write,pwrite64,writev,pwritev,pwritev2,sendfil
 # --- what a command writes
 
 def recorded(folder, line, most=1048576):
-    """What the command writes to V, at most so many bytes at once, as a list for each time between two syncs; a piece is a place and its bytes. V keeps its length."""
+    """What the command writes to V, at most so many bytes at once, as a list for each time between two syncs; a piece is a place and its bytes. V
+    keeps its length."""
     log, volume = os.path.join(folder, "log"), os.path.join(folder, "V")
     length = os.path.getsize(volume)
     words = ["strace", "-f", "-xx", "-s", str(most), "-e", "trace=" + TRACED, "-P", volume, "-o", log, *line.replace(" V", " " + volume).split()]

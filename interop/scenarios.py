@@ -49,11 +49,13 @@ OURS = {
     "priority": "LUKS priority V prefer --slot 1 --random random",
     "token": "LUKS token V import token --random random",
 }
-# how often the program flushes the volume in each edit: once before it begins, and then after each step; an erasure of LUKS1 has 16 steps, an entry and an
+# how often the program flushes the volume in each edit: once before it begins, and then after each step; an erasure of LUKS1 has 16 steps, an entry
+# and an
 # area of each keyslot. The copy of LUKS2's header that is damaged or older is written first, so that a repair has as many steps whichever it is
 SYNCS = {
     "luks1": {"add": 3, "add-by-key": 3, "change": 5, "remove": 3, "remove-by": 3, "erase": 17, "uuid": 2, "uuid-new": 2},
-    "luks2": {"add": 4, "add-by-key": 4, "change": 5, "remove": 4, "remove-by": 4, "erase": 5, "repair": 3, "label": 3, "uuid": 3, "uuid-new": 3, "priority": 3, "token": 3},
+    "luks2": {"add": 4, "add-by-key": 4, "change": 5, "remove": 4, "remove-by": 4, "erase": 5, "repair": 3, "label": 3, "uuid": 3, "uuid-new": 3,
+              "priority": 3, "token": 3},
 }
 # what LUKS1 hasn't
 OF_LUKS2 = ("label", "repair", "priority", "token")
