@@ -4,8 +4,8 @@
      SHIM_LOG      a file that gets a line for each call (see `note`)
      SHIM_BYTES    a file that gets the bytes of each write to a device, in their order
      SHIM_DEVICES  "volume:target:random": the files' names, as the command names them; `-` is none
-     SHIM_FAIL     "volume|target|watch call|read|write|flush N LEFT [always]": the call of number N (counted from 0) fails, or the first read, write or
-                   flush after N flushes; LEFT is what a failing write leaves; with `always` all later calls fail too
+     SHIM_FAIL     "volume|target|watch call|read|write|flush|truncate N LEFT [always]": the call of number N (counted from 0) fails, or the first read, write or
+                   flush after N flushes, or each change of its length; LEFT is what a failing write leaves; with `always` all later calls fail too
      SHIM_READS    "volume|target MOST FROM TO FROM TO": so many bytes of these parts may be read, and nothing is written
      SHIM_DENY     "name:errno,name:errno": opening the file fails
      SHIM_BREAK    "name:errno": the file is read byte by byte, and reading fails at its end
@@ -47,7 +47,7 @@
 
 /* WATCH is a device that the program opens once more while it has it open: it looks whether what it writes turns out to be what it reads. */
 enum kind { OTHER, VOLUME, TARGET, WATCH, RANDOM, BROKEN };
-enum call { ANY, READ, WRITE, FLUSH };
+enum call { ANY, READ, WRITE, FLUSH, TRUNCATE };
 enum left { OLD, NEW, ONES, HALF, LOST, LOST_BEFORE, LOST_EVEN, LOST_ODD, LOST_ONES, SUCCEEDS = -1 };
 static const char *const left_names[] = {"old", "new", "ones", "half", "lost", "lost-before", "lost-even", "lost-odd", "lost-ones", NULL};
 
@@ -81,7 +81,7 @@ static void set_failing(const char *text)
     if (sscanf(text, "%15s %15s %ld %15s %15s", device, when, &failing.number, left, always) < 4)
         return;
     failing.device = device_of(device);
-    failing.when = when[0] == 'c' ? ANY : when[0] == 'r' ? READ : when[0] == 'w' ? WRITE : FLUSH;
+    failing.when = when[0] == 'c' ? ANY : when[0] == 'r' ? READ : when[0] == 'w' ? WRITE : when[0] == 'f' ? FLUSH : TRUNCATE;
     failing.always = always[0] != 0;
     while (left_names[failing.left] != NULL && strcmp(left_names[failing.left], left) != 0)
         failing.left++;
@@ -390,8 +390,14 @@ int flock(int file, int how)
 
 int ftruncate(int file, off_t length)
 {
-    if (file >= 0 && file < FILES && kinds[file] != OTHER)
+    if (file >= 0 && file < FILES && kinds[file] != OTHER) {
         note("truncate %d %lld\n", kinds[file], (long long)length);
+        if (failing.device == kinds[file] && failing.when == TRUNCATE) {
+            note("x %d length\n", kinds[file]);
+            errno = EIO;
+            return -1;
+        }
+    }
     return (int)syscall(SYS_ftruncate, file, length);
 }
 

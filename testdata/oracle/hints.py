@@ -122,7 +122,10 @@ def has_no_keyslots(volume):
     chosen = reader.select(volume)
     if chosen == 1:
         return all(slot[0] != reader.ENABLED for slot in reader.common1(volume, range(8))["slots"])
-    return not reader.metadata(chosen[0])["keyslots"]
+    try:
+        return not reader.metadata(chosen[0])["keyslots"]
+    except Fault:
+        return False
 
 
 def of_memory(words, name, before):

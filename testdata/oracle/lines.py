@@ -37,7 +37,8 @@ class Transcript:
         """A command that prints this line, and these on standard error."""
         self.step("$", words)
         before = hints.of_new_passphrase(Words(words), {name: self.bytes_of(name) for name in ("passphrase", "new")})
-        said = [*(f"luks: {it}" for it in before), *errors, *(f"luks: {it}" for it in hints.explained(line))]
+        behind = hints.explained(line) + ([hints.IDENTIFIED.format("v")] if line == "done" and words.startswith("luks uuid v") else [])
+        said = [*(f"luks: {it}" for it in before), *errors, *(f"luks: {it}" for it in behind)]
         self.owed += [f"$ {words}", line, *(f"! {it}" for it in said), f"= {status}"]
 
     def bytes_of(self, name):

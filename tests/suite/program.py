@@ -54,7 +54,7 @@ class Ran:
             elif kind == "x":
                 device = int(rest[0])
                 self.failures[device] += 1
-                if self.calls[device][-1][0] == "r":
+                if self.calls[device] and self.calls[device][-1][0] == "r":
                     self.unread[device].append(self.calls[device][-1][1:])
             elif kind == "m":
                 self.lacked_memory = True
