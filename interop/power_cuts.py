@@ -31,7 +31,7 @@ def recorded(folder, line, most=1048576):
     words = ["strace", "-f", "-xx", "-s", str(most), "-e", "trace=" + TRACED, "-P", volume, "-o", log, *line.replace(" V", " " + volume).split()]
     done = ran(words, folder, text=True)
     if done.returncode:
-        sys.exit(f"cuts: {line}: status {done.returncode}\n{done.stdout}{done.stderr}")
+        sys.exit(f"power_cuts: {line}: status {done.returncode}\n{done.stdout}{done.stderr}")
     writes, places = [[]], {}
     with open(log) as calls:
         for call in calls:
@@ -41,7 +41,7 @@ def recorded(folder, line, most=1048576):
             if found:
                 follow(*found.groups(), writes, places)
             elif "+++" not in call and "---" not in call:
-                sys.exit(f"cuts: a line of strace that isn't known: {call[:200]}")
+                sys.exit(f"power_cuts: a line of strace that isn't known: {call[:200]}")
     return writes
 
 
@@ -52,7 +52,7 @@ def follow(name, arguments, result, writes, places):
         return
     if name in ("open", "openat"):
         if "SYNC" in arguments:
-            sys.exit("cuts: the volume was opened to be written through, which isn't known here")
+            sys.exit("power_cuts: the volume was opened to be written through, which isn't known here")
         places[str(result)] = 0
     elif name == "lseek":
         places[file] = result
@@ -62,13 +62,13 @@ def follow(name, arguments, result, writes, places):
         data, cut = DATA.search(arguments).groups()
         data = bytes.fromhex(data.replace("\\x", ""))[:result]
         if cut or len(data) != result:
-            sys.exit("cuts: strace cut the bytes of a write off")
+            sys.exit("power_cuts: strace cut the bytes of a write off")
         writes[-1].append((places[file] if name == "write" else int(arguments.split(",")[-1]), data))
         places[file] = places.get(file, 0) + (result if name == "write" else 0)
     elif name in ("fsync", "fdatasync", "syncfs"):
         writes.append([])
     elif name != "close":
-        sys.exit(f"cuts: a call that isn't known: {name}")
+        sys.exit(f"power_cuts: a call that isn't known: {name}")
 
 
 # --- what a cut leaves
