@@ -83,7 +83,7 @@ def sectors(pieces):
 
 
 def torn(pieces):
-    """The same, but of what the last piece writes to its last sector the first half alone."""
+    """The pieces, with the first half alone of what the last one writes to its last sector."""
     at, data = pieces[-1]
     begin = max(at, (at + len(data) - 1) // SECTOR * SECTOR) - at
     return [*pieces[:-1], (at, data[:begin + (len(data) - begin) // 2])]
