@@ -140,6 +140,18 @@ def room():
     return os.environ.get("TMPDIR") or ("/dev/shm" if os.access("/dev/shm", os.W_OK) else None)
 
 
+def skipped(what, missing):
+    """Says that a part of the script can't run here."""
+    print(f"skipped {NAME}, {what}: {missing} isn't there", flush=True)
+
+
+def has(command, what):
+    """Whether this command is there; otherwise what is skipped is said."""
+    if not shutil.which(command):
+        skipped(what, command)
+    return shutil.which(command) is not None
+
+
 class Compared:
     """Counts what is compared, and what of it is equal."""
     compared = equal = 0
