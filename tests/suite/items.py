@@ -82,10 +82,10 @@ class Script(Item):
 
 
 def run_script(program, path, place):
-    """Runs a script: one test, whose lines are said if it fails."""
+    """Runs a script: one test, whose last lines are said if it fails; otherwise those that say what of it was skipped."""
     ran = subprocess.run([path, program.path], cwd=place, stdin=subprocess.DEVNULL, stdout=subprocess.PIPE, stderr=subprocess.STDOUT, text=True, errors="replace")
     if ran.returncode == 0:
-        return 1, 0, []
+        return 1, 0, [line for line in ran.stdout.splitlines() if line.startswith("skipped ")]
     return 0, 1, [f"  {line:.300}" for line in ran.stdout.splitlines()[-12:]]
 
 
