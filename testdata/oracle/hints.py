@@ -11,6 +11,7 @@ DERIVATIONS = "at most {} derivations are made by the passphrase: Ctrl-C ends it
 NO_KEYSLOTS = ("{}: the volume has no keyslots: no passphrase opens it",
                "{}: the volume key still reads its data, of a mapping that is open or where it was kept: luks open --key tells whether it is the one")
 HEADER1 = 592
+FREE = reader.DISABLED.to_bytes(4, "big")
 
 
 def explained(answer):
@@ -40,16 +41,17 @@ def of_derivations(done, most):
     return [DERIVATIONS.format(most)] * (done > 0) + [f"the first took 1000 ms, so all take some {took}"] * (done > 1)
 
 
-def of_ending(words, name, before, answer, status, is_luks1=False):
-    """What is said once a command on a volume of this name has answered; `before` are the volume's bytes before it; `is_luks1`: `rebuild` made a LUKS1 header."""
+def of_ending(words, name, before, answer, status, made1=None):
+    """What is said once a command on a volume of this name has answered; `before` are the volume's bytes before it, `made1` the LUKS1 header that `rebuild` made."""
     fault = answer.removeprefix("refused ").partition("(")[0] if answer.startswith("refused ") else None
     said = of_written_over(words, name, before, answer)
     if fault in ("NotLuks", "NoSoundCopy", "SlotState", "Stripes"):
         said += of_standing(name, before, fault)
     if fault == "Kind":
         said += of_readable(name, before)
-    if words.command == "rebuild" and answer == "done" and not is_luks1 and not words.searches():
-        said += of_source(before, "second" in words.flags, words.number("size"))
+    if words.command == "rebuild" and answer == "done":
+        searched = [] if words.searches() else of_source(before, "second" in words.flags, words.number("size"))
+        said += of_lost(before, made1) if made1 else searched
     return said + of_command(words, name, before, answer, status, fault)
 
 
@@ -118,11 +120,18 @@ def of_whole(volume):
     return [f"metadata of {found[1]} is whole in the {found[0]} copy: luks rebuild makes a header of it", found[2]] if found else []
 
 
+def of_lost(source, made):
+    """Which keyslots of LUKS1 are disabled in the header that was made, though their entry doesn't say that they are free."""
+    places = [(n, 208 + 48 * n) for n in range(8)]
+    lost = [n for n, at in places if made[at:at + 4] == FREE != source[at:at + 4]]
+    return [f"keyslot {n}, which may have been in use, couldn't be kept: it is disabled" for n in lost]
+
+
 def has_no_keyslots(volume):
     chosen = reader.select(volume)
-    if chosen == 1:
-        return all(slot[0] != reader.ENABLED for slot in reader.common1(volume, range(8))["slots"])
     try:
+        if chosen == 1:
+            return all(slot[0] != reader.ENABLED for slot in reader.common1(volume, range(8))["slots"])
         return not reader.metadata(chosen[0])["keyslots"]
     except Fault:
         return False
