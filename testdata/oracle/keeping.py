@@ -160,7 +160,7 @@ def salts(volume):
         d = reader.common1(volume, range(8))
         found = {n: (d["slots"][n][2], reader.slot_area1(d, n)) for n in range(8) if d["slots"][n][0] == ENABLED}
     else:
-        found = {n: (slot["kdf"]["salt"], reader.slot_area2(slot)) for n, slot in reader.by_number(reader.metadata(chosen[0])["keyslots"])}
+        found = {n: (base64.b64decode(slot["kdf"]["salt"]), reader.slot_area2(slot)) for n, slot in reader.by_number(reader.metadata(chosen[0])["keyslots"])}
     return {n: (salt, volume[start:start + length]) for n, (salt, (start, length)) in found.items()}
 
 

@@ -9,6 +9,7 @@ from suite.making import unescaped
 from suite.program import put
 
 MOST_RUNS = 100000
+NOT_LAST = "isn't the last"
 
 
 def begin(session):
@@ -135,6 +136,8 @@ def torn(session, line, rest):
     for number, (at, new) in enumerate(parts):
         run_command(session, text, {"fail": [(device, f"call {number} {left}")]})
         wrong = wrong_of(session, device, number, left_behind(owed, at, new, left))
+        if wrong == NOT_LAST and calls[number][0] == "r" and content(session, device) == after:
+            wrong = "is passed over"
         before.put_back()
         if wrong:
             session.emit(f"call {number} {wrong}\n")
@@ -147,7 +150,7 @@ def torn(session, line, rest):
 def wrong_of(session, device, number, owed):
     """What isn't as it has to be if the call of this number failed."""
     if len(session.asked.calls[DEVICES[device]]) != number + 1:
-        return "isn't the last"
+        return NOT_LAST
     if sum(session.asked.failures.values()) != 1:
         return "isn't the only failure"
     return None if content(session, device) == owed else "leaves other bytes"
