@@ -11,6 +11,7 @@
      SHIM_BREAK    "name:errno": the file is read byte by byte, and reading fails at its end
      SHIM_ROOM     "OUT ERR": how many bytes standard output and standard error take; -1 is any number
      SHIM_MEMORY   so many allocations succeed, and all later ones fail
+     SHIM_LARGEST  allocations of more bytes fail
      SHIM_CLOCK    each reading of the clock is a second later than the one before, and no pause is made
      SHIM_CUT      "name:other:length": when a file of this name is opened, the other one is cut to this length
      SHIM_BLOCK    "name:major:minor,name:major:minor": the files of these names look like these block devices
@@ -68,7 +69,7 @@ static struct { char call[16], name[NAME], other[NAME]; long number; } exchange;
 static struct { long number; long long at; } meddling = {-1, 0};
 static const char *lock_answers;
 static long room[3] = {-1, -1, -1};
-static long memory = -1;
+static long memory = -1, largest = -1;
 static int has_own_clock, lists_system, counts_opening;
 static int log_file = -1, bytes_file = -1;
 
@@ -144,6 +145,8 @@ static void read_settings(void)
         sscanf(text, "%ld %ld", &room[1], &room[2]);
     if ((text = getenv("SHIM_MEMORY")) != NULL)
         memory = atol(text);
+    if ((text = getenv("SHIM_LARGEST")) != NULL)
+        largest = atol(text);
     denied_names = getenv("SHIM_DENY");
     cut_text = getenv("SHIM_CUT");
     root = getenv("SHIM_ROOT");
@@ -181,13 +184,14 @@ static void note(const char *format, ...)
 
 extern void *__libc_malloc(size_t), *__libc_realloc(void *, size_t), *__libc_calloc(size_t, size_t);
 
-static int refuses_memory(void)
+static int refuses_memory(size_t size)
 {
     static int is_noted;
+    int is_large = largest >= 0 && size > (size_t)largest;
 
-    if (memory < 0)
+    if (memory < 0 && !is_large)
         return 0;
-    if (memory > 0) {
+    if (memory > 0 && !is_large) {
         memory--;
         return 0;
     }
@@ -198,9 +202,9 @@ static int refuses_memory(void)
     return 1;
 }
 
-void *malloc(size_t size) { return refuses_memory() ? NULL : __libc_malloc(size); }
-void *calloc(size_t count, size_t size) { return refuses_memory() ? NULL : __libc_calloc(count, size); }
-void *realloc(void *old, size_t size) { return refuses_memory() ? NULL : __libc_realloc(old, size); }
+void *malloc(size_t size) { return refuses_memory(size) ? NULL : __libc_malloc(size); }
+void *calloc(size_t count, size_t size) { return refuses_memory(count * size) ? NULL : __libc_calloc(count, size); }
+void *realloc(void *old, size_t size) { return refuses_memory(size) ? NULL : __libc_realloc(old, size); }
 
 /* --- paths */
 
