@@ -2,6 +2,7 @@
 import re
 
 from suite import devices
+from suite.program import put
 
 import uses
 
@@ -84,3 +85,19 @@ def test_partitions_and_several_signatures(run):
     for parts, owed in DISKS:
         found = shown(run, 4608, *parts)
         assert found == owed, (parts, found)
+
+
+def test_each_failed_read(run):
+    """`format` looks for another use before it writes: a read that fails ends it with the device's fault, and nothing is written."""
+    for name, content in (("p", b"one"), ("r", bytes(i % 251 for i in range(128080)))):
+        put(name, content)
+    words = ["format", "v", "--passphrase=p", "--random=r", "--iterations=1000", "--key-bytes=32", "--version=1", "--quiet"]
+    devices.lay("v", None, length=2097152)
+    calls = run.luks(*words, devices="v:-:r").calls[1]
+    reads = next(i for i, call in enumerate(calls) if call[0] == "w")
+    assert reads >= 2, calls[:4]
+    for number in sorted({*range(8), *range(0, reads, 16), *range(reads - 8, reads)}):
+        disk = devices.lay("v", None, length=2097152)
+        ran = run.luks(*words, devices="v:-:r", fail=f"volume call {number} old")
+        assert (ran.status, ran.out) == (4, b"device fault\n") and (b"luks: v: reading failed\n" in ran.err or number > 8), (number, ran.out, ran.err)
+        assert not any(part.strip(b"\0") for _, part in disk.extents()[1]), number

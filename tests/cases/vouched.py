@@ -102,3 +102,15 @@ def test_what_a_terminal_shows_of_the_search(run):
 
 
 test_three_sectors_of_each_copy.takes = 3000
+
+
+def test_each_failed_read(run):
+    """Of a volume of which no header counts: the device's fault is told, or that a checksum vouches for the metadata isn't said, and which bytes failed."""
+    devices.lay("v", "two-hashes", WIPED)
+    calls = run.luks("check", "v", devices="v:-:-").calls[1]
+    told = set()
+    for number in range(len(calls)):
+        ran = run.luks("check", "v", devices="v:-:-", fail=f"volume call {number} old")
+        assert b"couldn't be read\n" in ran.err and (ran.status, ran.out) in ((4, b"device fault\n"), (1, b"refused NotLuks\n")), (number, ran.out, ran.err)
+        told.add(ran.status)
+    assert told == {1, 4} and len(calls) > 3, (told, calls)
