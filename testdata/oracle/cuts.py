@@ -7,22 +7,22 @@ PIECE, SECTOR, HEAD = 4096, 512, 4096
 ZEROS = bytes(SECTOR)
 
 
-def calls(writes):
-    """The writes, and a None for each flush. A copy of a LUKS2 header is written in two parts, all else in pieces of eight sectors."""
+def calls(writes, piece=None):
+    """The writes, and a None for each flush: by pieces of this length or, if none is given, a copy of a LUKS2 header in two parts and all else by eight sectors."""
     for at, part in writes:
-        is_copy = part[:6] == images.SECOND_MAGIC or part[:8] == images.FIRST_MAGIC + b"\0\2"
-        first = HEAD if is_copy else PIECE
-        rest = len(part) if is_copy else PIECE
+        is_copy = piece is None and (part[:6] == images.SECOND_MAGIC or part[:8] == images.FIRST_MAGIC + b"\0\2")
+        first = HEAD if is_copy else piece or PIECE
+        rest = len(part) if is_copy else first
         yield at, part[:first]
         for start in range(first, len(part), rest):
             yield at + start, part[start:start + rest]
         yield None
 
 
-def left(device, writes, leave):
+def left(device, writes, leave, piece=None):
     """The device that is left where each call fails in turn. `device` has slices, and `written`, which gives the device with these writes."""
     settled, unsettled = device, []
-    for call in calls(writes):
+    for call in calls(writes, piece):
         whole = settled.written(unsettled)
         if leave.startswith("lost"):
             yield settled.written(kept_of(settled, unsettled, call, leave))

@@ -106,14 +106,14 @@ def is_other(backup, target):
 CLEAR = bytes(512)
 
 
-def writes_of_backup(source, detached, length):
-    """What is written to a target of this length, in order, or the first refusal."""
+def writes_of_backup(source, detached, target):
+    """What is written to the target, in order, or the first refusal: second copies that begin there are cleared first."""
     reader.checked(source, detached)
     end = size(source, detached)
-    if length < end:
+    if len(target) < end:
         raise Fault("TooSmall")
-    places = [0, *(at for at in reader.SIZES if at + 512 <= end)]
-    return [*((at, CLEAR) for at in places), (512, bytes(end - 512)), *areas_and_header(source)]
+    places = sorted((at for at in reader.SIZES if at + 512 <= end), key=lambda at: (target[at:at + 6] != b"SKUL\xba\xbe", -at))
+    return [*((at, CLEAR) for at in (0, *places)), (512, bytes(end - 512)), *areas_and_header(source)]
 
 
 def areas_and_header(source):
