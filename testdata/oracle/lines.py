@@ -1,4 +1,4 @@
-"""Lines of a transcript: the steps that `crates/luks_transcripts` reads, and what is owed to them."""
+"""Lines of a transcript: its steps (tests/README.md has their language), and what is owed to them."""
 import hashlib
 import sys
 

@@ -56,7 +56,7 @@ def secrets(files):
 
 
 def without_range(ran, names):
-    """Takes the line away that tells the bytes of the first read that failed, on standard error and in an object, if these are the ones that failed."""
+    """Takes the line away that tells which bytes couldn't be read, from standard error and an object, if the shim let these fail first."""
     for name, device in DEVICES.items():
         for at, length in ran.unread[device][:1]:
             line = f"luks: {names.get(name)}: bytes {at} to {at + length - 1} couldn't be read".encode()

@@ -2,16 +2,13 @@
 import glob
 import importlib.util
 import os
-import re
 import shutil
 import subprocess
-import time
 
 from suite import cases, transcripts
 from suite.program import TOP
 
 INTEROP = os.path.join(TOP, "interop")
-LAST = re.compile(r"(\d+) (?:of|passed|compared|comparisons)\b")
 
 
 def head_of(path):
@@ -32,7 +29,8 @@ def is_met(need):
     if need == "root":
         return os.geteuid() == 0
     if need == "loop":
-        return os.geteuid() == 0 and shutil.which("losetup") is not None and subprocess.run(["losetup", "-f"], capture_output=True).returncode == 0
+        has_losetup = os.geteuid() == 0 and shutil.which("losetup")
+        return bool(has_losetup) and subprocess.run(["losetup", "-f"], capture_output=True).returncode == 0
     if need == "libluks":
         return os.path.exists(os.path.join(TOP, "bin", "libluks.so.1"))
     if need.startswith("python-"):
@@ -49,6 +47,12 @@ class Item:
         self.passed = self.failed = 0
         self.said, self.seconds = [], 0.0
 
+    def add(self, found, seconds):
+        """Adds what a part came to, and the processor seconds that it took."""
+        passed, failed, said = found
+        self.passed, self.failed, self.seconds = self.passed + passed, self.failed + failed, self.seconds + seconds
+        self.said += said
+
     def missing(self):
         return [it for it in self.needs if not is_met(it)]
 
@@ -63,7 +67,8 @@ class Transcript(Item):
 
     def parts(self):
         """What of it is run at once: each part's name, its weight, and the function with its arguments."""
-        return [(piece.steps[0], piece.weight(), transcripts.run_piece, (self.path, number)) for number, piece in enumerate(transcripts.transcript(self.path))]
+        found = enumerate(transcripts.transcript(self.path))
+        return [(piece.steps[0], piece.weight(), transcripts.run_piece, (self.path, number)) for number, piece in found]
 
 
 class Case(Item):
@@ -83,7 +88,8 @@ class Script(Item):
 
 def run_script(program, path, place):
     """Runs a script: one test, whose last lines are said if it fails; otherwise those that say what of it was skipped."""
-    ran = subprocess.run([path, program.path], cwd=place, stdin=subprocess.DEVNULL, stdout=subprocess.PIPE, stderr=subprocess.STDOUT, text=True, errors="replace")
+    ran = subprocess.run([path, program.path], cwd=place, stdin=subprocess.DEVNULL, stdout=subprocess.PIPE, stderr=subprocess.STDOUT, text=True,
+                         errors="replace")
     if ran.returncode == 0:
         return 1, 0, [line for line in ran.stdout.splitlines() if line.startswith("skipped ")]
     return 0, 1, [f"  {line:.300}" for line in ran.stdout.splitlines()[-12:]]
@@ -91,12 +97,9 @@ def run_script(program, path, place):
 
 def timed(program, function, arguments, place):
     """Runs a part; what it comes to, and the processor seconds that it and its programs took."""
-    def used():
-        times = os.times()
-        return sum(times[:4])
-    began, clock = used(), time.monotonic()
+    began = sum(os.times()[:4])
     found = function(program, *arguments, place)
-    return found, used() - began, time.monotonic() - clock
+    return found, sum(os.times()[:4]) - began
 
 
 def named(path):

@@ -2,9 +2,11 @@
 
 A server forks the program before its `main` for each run (see `serve` in shim.c), so that a run takes neither an exec nor the linker's work.
 """
+import contextlib
 import os
 import select
 import shutil
+import signal
 import struct
 import subprocess
 import sys
@@ -71,7 +73,7 @@ class Server:
         self.folder = os.getcwd()
         theirs, self.to = os.pipe()
         self.told, mine = os.pipe()
-        self.process = subprocess.Popen([program], pass_fds=(theirs, mine), stdin=subprocess.DEVNULL,
+        self.process = subprocess.Popen([program], pass_fds=(theirs, mine), stdin=subprocess.DEVNULL, start_new_session=True,
                                         env={"PATH": "/usr/bin", "LD_PRELOAD": shim, "SHIM_SERVE": f"{theirs} {mine}"})
         os.close(theirs)
         os.close(mine)
@@ -81,11 +83,16 @@ class Server:
         request = b"".join(os.fsencode(text) + b"\0" for text in texts)
         os.write(self.to, struct.pack("=I", len(request)) + request)
         if not select.select([self.told], [], [], SECONDS)[0]:
-            self.process.kill()
-            raise TimeoutError(repr(texts))
-        return os.waitstatus_to_exitcode(struct.unpack("=i", os.read(self.told, 4))[0])
+            raise TimeoutError(f"the program runs for {SECONDS} s: {texts!r}")
+        answer = os.read(self.told, 4)
+        if len(answer) < 4:
+            raise ChildProcessError(f"the shim's server has ended: {texts!r}")
+        return os.waitstatus_to_exitcode(struct.unpack("=i", answer)[0])
 
     def end(self):
+        """Ends the server, and the run that hangs, if one does."""
+        with contextlib.suppress(ProcessLookupError):
+            os.killpg(self.process.pid, signal.SIGKILL)
         os.close(self.to)
         os.close(self.told)
         self.process.wait()
@@ -121,7 +128,11 @@ class Program:
         for stream in streams:
             stream.choose(settings)
         logged = ["SHIM_LOG=@log"] if logs else []
-        status = self.server.ask([*logged, *environment(settings), "luks", *words])
+        try:
+            status = self.server.ask([*logged, *environment(settings), "luks", *words])
+        except OSError:
+            self.end()
+            raise
         return Ran(status, *(stream.taken() for stream in streams), whole("@log").decode("utf-8", "replace") if logs else "")
 
     def plain(self, words, given=b"", **more):

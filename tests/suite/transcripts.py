@@ -13,14 +13,15 @@ GIVING = ("passphrase", "new", "random", "count", "repeat")
 MAKES = {"text": "text", "json": "text", "volume": "volume", "small": "volume", "large": "volume", "target": "target", "keep": "keep"}
 NEEDS = {**dict.fromkeys(("edit", "pad", "spaces", "size", "seqid", "label", "subsystem", "uuid"), {"text"}), "header": {"text", "volume"},
          **dict.fromkeys(("put", "run", "area", "cut", "disk", "back", "seal", "exchange", "keep"), {"volume"}), "kept": {"volume", "keep"},
-         **dict.fromkeys(("sum", "bytes", "all", "longest", "ended", "length", "holds", "open", "unlock", "areas", "starved"), {"volume"}),
+         **dict.fromkeys(("sum", "bytes", "all", "longest", "ended", "length", "holds", "open", "unlock"), {"volume"}),
          **dict.fromkeys(("left", "calls", "ranges", "at-least", "beyond", "reads-beyond"), {"run"}),
          **dict.fromkeys(("target-sum", "untouched"), {"target"}),
          # nothing makes `files`: a heading with such a step is never cut off
          **dict.fromkeys(files.STEPS, {"files"})}
 RUNS = ("$", "each", "torn", "rooms", "memory")
 # how many runs of the program a step is worth, about, so that long pieces begin first
-WEIGHTS = {"$": 1, "%": 3, "briefly": 0.2, "each": 40, "torn": 60, "rooms": 40, "memory": 400, "numbers": 32, "cuts": 1500, "changes": 3000, "damage": 3000}
+WEIGHTS = {"$": 1, "%": 3, "briefly": 0.2, "each": 40, "torn": 60, "rooms": 40, "memory": 400, "numbers": 32, "cuts": 1500, "changes": 3000,
+           "damage": 3000}
 
 
 def command_of(line):
@@ -104,15 +105,22 @@ def steps_of(text):
     return lines
 
 
-def owed_to(pieces_found, owed):
-    """Cuts what is owed at the first line of each piece."""
-    at = 0
-    for piece, later in zip(pieces_found, [*pieces_found[1:], None]):
-        end = len(owed) if later is None else owed.find(b"\n" + later.steps[0].encode() + b"\n", at) + 1
-        if end == 0:
-            raise ValueError(f"nothing is owed to {later.steps[0]!r}")
-        piece.owed, at = owed[at:end], end
-    return pieces_found
+def owed_to(found, owed):
+    """Cuts what is owed at the first heading of each piece; headings are looked for in their order, since two may be alike."""
+    begins, at = [0], 0
+    for piece in found:
+        for line in piece.steps:
+            if not line.startswith("# "):
+                continue
+            place = owed.find(line.encode() + b"\n", at)
+            if place < 0:
+                raise ValueError(f"nothing is owed to {line!r}")
+            if line is piece.steps[0] and piece is not found[0]:
+                begins.append(place)
+            at = place + len(line)
+    for piece, begin, end in zip(found, begins, [*begins[1:], len(owed)]):
+        piece.owed = owed[begin:end]
+    return found
 
 
 @functools.cache

@@ -46,8 +46,8 @@ def probe(session, _, rest):
 
 
 def holds(session, question):
-    """Whether `check` accepts the device (`accepted`; a target as a detached header), or the keyslot of this number opens by now (`N PASSPHRASE`): of any
-    cipher and hash, and by Argon2 with up to 2 MiB."""
+    """Whether `check` accepts the device (`accepted`; a target as a detached header), or the keyslot of this number opens by now (`N PASSPHRASE`): of
+    any cipher and hash, and by Argon2 with up to 2 MiB."""
     is_target = question.startswith("target ")
     disk = session.target if is_target else session.volume
     key = hashlib.sha256(repr(disk.extents()).encode()).digest(), question
