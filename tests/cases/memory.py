@@ -1,4 +1,7 @@
-"""Refused memory: a command that is refused any says so with status 4, and leaves every byte as it was until it has all that its work takes."""
+"""Refused memory: a command that is refused any ends with status 4, and no part of its work is left.
+
+Either every byte is as it was, or all is written: what a command prints takes memory too, and if only that is refused, its work is done.
+"""
 from suite import devices
 from suite.disks import Disk
 from suite.program import put, whole
@@ -52,7 +55,7 @@ def test_refused_memory(run):
             assert ran.status == 4 and ran.out in (b"no memory\n", b""), (words, number, ran.status, ran.out)
             assert found in (trial.old, trial.new), (words, number, "part of it is written")
             all_written += [number] * (found != trial.old)
-        # what is said of the work takes memory too: if no more than that is refused, all is written
+        # all is written only if nothing but the last allocations is refused, which are for what is printed
         assert all_written == list(range(low - len(all_written) + 1, low + 1)) and len(all_written) <= 6, (words, all_written, low)
 
 
@@ -77,7 +80,7 @@ class Trial:
         return ran, found
 
     def last_refused(self):
-        """With how many allocations at most it is refused memory."""
+        """The most allocations with which it is still refused memory."""
         low, high = 0, 64
         while self.run_with(high)[0].status == 4:
             low, high = high, 2 * high

@@ -164,6 +164,19 @@ def test_a_file_gets_its_length_with_the_first_write(run):
         assert ran.status == 4 and whole("f") == text.encode(), "nothing was written, so it has its length"
 
 
+def test_an_unfinished_file_is_taken_away(run):
+    """What was made goes; another file that has its name by then stays."""
+    devices.lay("v")
+    settings = {"devices": "v:f:-", "system": 1, "fail": "target write 3 old"}
+    ran = run.luks(*BACKUP, **settings)
+    assert ran.status == 4 and not os.path.exists("f"), ran.err
+    log = ran.log.splitlines()
+    number = sum(line.startswith("stat ") for line in log[:log.index("open > f")])
+    devices.put_text("other", "other")
+    ran = run.luks(*BACKUP, exchange=f"stat {number} f other", **settings)
+    assert (ran.status, whole("f")) == (4, b"other"), ran.err
+
+
 # --- a target that is its source, though nothing tells it
 
 

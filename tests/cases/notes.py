@@ -44,7 +44,7 @@ def test_nothing_is_said_of_a_header_that_is_not_made(run):
 
 
 def test_metadata_that_is_whole(run):
-    """Of headers of which both binary parts are damaged."""
+    """Both binary headers are damaged, so that no header counts."""
     for parts, owed in (([], WHOLE.format("2 keyslots", "first") + UNVOUCHED), ([(AREA, b"\0")], WHOLE.format("2 keyslots", "second") + UNVOUCHED),
                         ([(AREA, b"\0"), (SIZE + AREA, b"\0")], "")):
         devices.lay("v", "damaged", parts)

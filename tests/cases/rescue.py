@@ -3,7 +3,7 @@ from suite import devices
 from suite.program import put, whole
 
 SECTOR, END = 512, 65536
-# of each volume: what stands behind the stripes of its keyslots, so that no sector of their areas holds zeros, and the areas
+# each volume: bytes behind the stripes of its keyslots, so that no sector of their areas holds zeros alone, and the areas
 VOLUMES = {"luks1": ([], [(4096, 2560)]), "luks2": ([(35328, b"\x5a" * 1536), (39424, b"\x5a" * 1536)], [(32768, 4096), (36864, 4096)])}
 
 

@@ -13,8 +13,8 @@ ZFS = [(131072, "little"), (131072, "big"), (132096, "little"), (135168, "big"),
 SIGNATURES = [(name, stands.place, text) for name, stands in uses.ROWS if hasattr(stands, "place") for text in stands.texts]
 SIGNATURES += [("ZFS", place, uses.UBERBLOCK.to_bytes(8, order)) for place, order in ZFS]
 END = (510, b"\x55\xaa")
-# disks of 4608 bytes, zeros but for these, and what they show: of several signatures the first one, a partition if an entry has a type and sectors, and a
-# table without one if it names the disk
+# disks of 4608 bytes, zeros except for these, and what they show: the first of several signatures; a partition if an entry has a type and sectors; a table
+# without one if it names the disk
 DISKS = [
     ([], None),
     ([(440, b"\1\2\3\4"), END], "MBR"),
@@ -53,7 +53,7 @@ DISKS = [
 
 
 def shown(run, length, *parts):
-    """What `check` says stands on a disk of these bytes; nothing if it says nothing."""
+    """The use that `check` names of a disk of these bytes; nothing if it names none."""
     devices.lay("v", None, parts, length)
     ran = run.luks("check", "v", logs=False)
     found = re.search(rb"v: what stands there is (.*)\n", ran.err)
