@@ -132,7 +132,8 @@ bench: bin/luks
 	bench/run
 
 interop: bin/luks bin/libluks.so.1
-	interop/run
+	interop/run --install
+	tests/run --program bin/luks --all interop
 
 clean:
 	rm -rf bin dist crates/*/out

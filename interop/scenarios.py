@@ -1,21 +1,12 @@
-"""The volumes and the commands that `faults` and `power` try: edits of the program and of cryptsetup."""
-import os
+"""The volumes and the edits that `faults` and `power` try, and which passphrases have to open what is left."""
+from common import ITERATIONS, MIB, PBKDF2, Run
 
-from common import cryptsetup, put, status
-
-TOP = os.path.dirname(os.path.dirname(os.path.abspath(__file__)))
-
-MIB = 1 << 20
 LENGTH, PAYLOAD = 4 * MIB + 65536, 4 * MIB
-FAST = "--pbkdf-force-iterations 1000 "
-FORMATS = {"luks1": "luksFormat -q --type luks1 --cipher aes-xts-plain64 --key-size 256 --offset 8192 " + FAST,
-           "luks2": "luksFormat -q --type luks2 --cipher aes-xts-plain64 --key-size 256 --offset 8192 --luks2-keyslots-size 2m --pbkdf pbkdf2 " + FAST,
-           "luks2-full": "luksFormat -q --type luks2 --cipher aes-xts-plain64 --key-size 256 --offset 8192 --luks2-keyslots-size 262144 --pbkdf pbkdf2 " + FAST}
-# how a LUKS2 keyslot is made by cryptsetup
-DERIVATION = {"luks1": FAST, "luks2": "--pbkdf pbkdf2 " + FAST, "luks2-full": "--pbkdf pbkdf2 " + FAST}
+DERIVATION = {"luks1": ITERATIONS, "luks2": PBKDF2}
+KIND = "luksFormat -q --cipher aes-xts-plain64 --key-size 256 --offset 8192"
+FORMATS = {"luks1": f"{KIND} --type luks1 {ITERATIONS}", "luks2": f"{KIND} --type luks2 --luks2-keyslots-size 2m {PBKDF2}"}
 # where a copy of LUKS2's header is damaged: the place of some bytes of its metadata
 DAMAGES = {"first": 4096, "second": 16384 + 4096}
-WORDS = ("one", "two", "three")
 # what the edit is to do: (kept, one of these, opens where all went well, doesn't then)
 EDITS = {
     "add": ({"one", "two"}, set(), {"three"}, set()),
@@ -58,39 +49,31 @@ OURS = {
     "priority": "LUKS priority V prefer --slot 1 --random random",
     "token": "LUKS token V import token --random random",
 }
-# How often the program syncs the volume in each edit: once before it begins, and then after each step; an erasure of LUKS1 has 16 of them, an entry and an area
-# of each keyslot. A copy of LUKS2's header that is
-# damaged or older is written first, so that a repair has as many steps whichever it is.
+# how often the program flushes the volume in each edit: once before it begins, and then after each step; an erasure of LUKS1 has 16 steps, an entry
+# and an
+# area of each keyslot. The copy of LUKS2's header that is damaged or older is written first, so that a repair has as many steps whichever it is
 SYNCS = {
     "luks1": {"add": 3, "add-by-key": 3, "change": 5, "remove": 3, "remove-by": 3, "erase": 17, "uuid": 2, "uuid-new": 2},
-    "luks2": {"add": 4, "add-by-key": 4, "change": 5, "remove": 4, "remove-by": 4, "erase": 5, "repair": 3, "label": 3, "uuid": 3, "uuid-new": 3, "priority": 3, "token": 3},
+    "luks2": {"add": 4, "add-by-key": 4, "change": 5, "remove": 4, "remove-by": 4, "erase": 5, "repair": 3, "label": 3, "uuid": 3, "uuid-new": 3,
+              "priority": 3, "token": 3},
 }
-# the commands that a program of before hasn't
-LATER = ("erase", "uuid", "priority", "token")
 # what LUKS1 hasn't
 OF_LUKS2 = ("label", "repair", "priority", "token")
-
-
-def ours(program):
-    """The program's edits, but for the commands that it hasn't."""
-    return {edit: line for edit, line in OURS.items() if line.split()[1] not in LATER or status([program, line.split()[1], "--help"], None) == 0}
 
 
 def payload():
     return bytes(i * 13 % 251 for i in range(LENGTH - PAYLOAD))
 
 
-def make_volumes(folder):
+class Volumes(Run):
     """A volume of each format with the passphrases `one` in slot 0 and `two` in slot 1, and the files that the commands name."""
-    for word in WORDS:
-        put(folder, word, word.encode())
-    put(folder, "random", bytes(i * 7 % 251 for i in range(400000)))
-    put(folder, "token", b'{"type":"systemd-recovery","keyslots":["1"]}')
-    for version, line in FORMATS.items():
-        put(folder, version, bytes(LENGTH))
-        cryptsetup(f"{line}--key-file one {version}", folder)
-        cryptsetup(f"luksAddKey -q {DERIVATION[version]} --key-file one {version} two", folder)
-        cryptsetup(f"luksDump -q --dump-volume-key --volume-key-file key-{version} --key-file one {version}", folder)
-        with open(os.path.join(folder, version), "r+b") as volume:
-            volume.seek(PAYLOAD)
-            volume.write(payload())
+
+    def __init__(self, program, folder):
+        super().__init__(program, folder)
+        self.put("random", bytes(i * 7 % 251 for i in range(400000)))
+        self.put("token", b'{"type":"systemd-recovery","keyslots":["1"]}')
+        for version, line in FORMATS.items():
+            self.put(version, bytes(PAYLOAD) + payload())
+            self.cryptsetup(f"{line} --key-file one {version}")
+            self.cryptsetup(f"luksAddKey -q {DERIVATION[version]} --key-file one {version} two")
+            self.put(f"key-{version}", self.volume_key(version, "one"))

@@ -1,15 +1,10 @@
-"""The equations of docs/PROFILE.md in Python, over hashlib and the AES of `cryptography`; no code is shared with the program."""
+"""The equations of docs/PROFILE.md in Python, over hashlib and the AES of OpenSSL's libcrypto; no code is shared with the program."""
 import ctypes
 import ctypes.util
 import hashlib
 import struct
 
 import argon2_keys
-
-try:
-    from cryptography.hazmat.primitives.ciphers import Cipher, algorithms, modes
-except ImportError:
-    raise SystemExit("Python's package cryptography isn't there: apt-get install python3-cryptography") from None
 
 SECTOR = 512
 
@@ -18,8 +13,11 @@ HASHES = ("sha1", "sha256", "sha512")
 
 # Those that open where ciphers and hashes of older disks are accepted. hashlib has Whirlpool once OpenSSL's legacy provider is loaded.
 OLDER_HASHES = ("sha224", "sha384", "ripemd160", "whirlpool", "blake2b-512")
+LIBCRYPTO = ctypes.CDLL(ctypes.util.find_library("crypto"))
 for provider in (b"default", b"legacy"):
-    ctypes.CDLL(ctypes.util.find_library("crypto")).OSSL_PROVIDER_load(None, provider)
+    LIBCRYPTO.OSSL_PROVIDER_load(None, provider)
+for function, answer in (("EVP_CIPHER_CTX_new", ctypes.c_void_p), ("EVP_CIPHER_CTX_free", None), ("EVP_get_cipherbyname", ctypes.c_void_p)):
+    getattr(LIBCRYPTO, function).restype = answer
 
 XTS = "aes-xts-plain64"
 # The ciphers of such disks, with the number's bytes in the initial vector, and whether it is encrypted under the key's SHA-256.
@@ -70,10 +68,22 @@ def merge(hash_name, material, length):
     return xor(fold(hash_name, stripes[:-1], length), stripes[-1])
 
 
+def aes(mode, key, data, seals, vector=None):
+    """Whole blocks by AES in `ecb` or `cbc`."""
+    context, out, count = ctypes.c_void_p(LIBCRYPTO.EVP_CIPHER_CTX_new()), ctypes.create_string_buffer(len(data)), ctypes.c_int()
+    cipher = ctypes.c_void_p(LIBCRYPTO.EVP_get_cipherbyname(f"aes-{8 * len(key)}-{mode}".encode()))
+    done = (LIBCRYPTO.EVP_CipherInit_ex(context, cipher, None, key, vector, int(seals)) == 1
+            and LIBCRYPTO.EVP_CIPHER_CTX_set_padding(context, 0) == 1
+            and LIBCRYPTO.EVP_CipherUpdate(context, out, ctypes.byref(count), data, len(data)) == 1)
+    LIBCRYPTO.EVP_CIPHER_CTX_free(context)
+    if not done or count.value != len(data):
+        raise ValueError("libcrypto doesn't encrypt this")
+    return out.raw
+
+
 def tweaks(key, unit, count):
     """The tweaks of `count` blocks of a unit, joined."""
-    encryptor = Cipher(algorithms.AES(key), modes.ECB()).encryptor()
-    tweak = int.from_bytes(encryptor.update(unit.to_bytes(16, "little")), "little")
+    tweak = int.from_bytes(aes("ecb", key, unit.to_bytes(16, "little"), True), "little")
     out = []
     for _ in range(count):
         out.append(tweak.to_bytes(16, "little"))
@@ -86,9 +96,7 @@ def tweaks(key, unit, count):
 def xts(key, unit, data, seals):
     half = len(key) // 2
     mask = tweaks(key[half:], unit, len(data) // 16)
-    cipher = Cipher(algorithms.AES(key[:half]), modes.ECB())
-    worker = cipher.encryptor() if seals else cipher.decryptor()
-    return xor(worker.update(xor(data, mask)), mask) if data else b""
+    return xor(aes("ecb", key[:half], xor(data, mask), seals), mask) if data else b""
 
 
 def xts_units(key, data, seals):
@@ -100,9 +108,8 @@ def cbc(cipher, key, unit, data, seals):
     size, is_hashed = CBC[cipher]
     vector = (unit % 256**size).to_bytes(16, "little")
     if is_hashed:
-        vector = Cipher(algorithms.AES(hashlib.sha256(key).digest()), modes.ECB()).encryptor().update(vector)
-    mode = Cipher(algorithms.AES(key), modes.CBC(vector))
-    return (mode.encryptor() if seals else mode.decryptor()).update(data)
+        vector = aes("ecb", hashlib.sha256(key).digest(), vector, True)
+    return aes("cbc", key, data, seals, vector)
 
 
 def units(cipher, key, data, seals):

@@ -60,21 +60,27 @@ def uuid_text(random):
     return str(uuid.UUID(bytes=random, version=4)).encode()
 
 
-def formatted(version, volume, detached, hash_name, iterations, passphrase, random, costs=None, memory=0, given=None):
-    """The line that the program prints, and the volume left. Keyslot 0 of LUKS2 derives by Argon2 where its costs are given, the `kdf` of a keyslot
+def formatted(version, volume, *rest, **more):
+    """The line that the program prints, and the volume left."""
+    out = bytearray(volume)
+    try:
+        for at, part in parts(version, volume, *rest, **more):
+            out[at:at + len(part)] = part
+    except Fault as fault:
+        return f"refused {fault}", volume
+    return "done slot 0", bytes(out)
+
+
+def parts(version, volume, detached, hash_name, iterations, passphrase, random, costs=None, memory=0, given=None):
+    """What is written of the key area and the header, in order, or the first refusal. Keyslot 0 of LUKS2 derives by Argon2 where its costs are given, the `kdf` of a keyslot
     but for the salt, with so many KiB allowed. Of `given` are the volume `key`, the payload's `sector`, the `uuid`, the `label`, the `subsystem`, the
     `cipher`, `key_bytes`, the `sector_size`, and whether `older` ciphers are accepted."""
     given = {"cipher": XTS, "key_bytes": 64, "sector_size": 512, "older": False} | (given or {})
-    try:
-        judged_given(version, volume, detached, given)
-        drawn = judged(version, given["key_bytes"], iterations, random, costs, memory)
-        parts = parts1(drawn, detached, hash_name, iterations, passphrase, given) if version == 1 else parts2(drawn, detached, hash_name, iterations, passphrase, costs, given)
-    except Fault as fault:
-        return f"refused {fault}", volume
-    out = bytearray(volume)
-    for at, part in parts:
-        out[at:at + len(part)] = part
-    return "done slot 0", bytes(out)
+    judged_given(version, volume, detached, given)
+    drawn = judged(version, given["key_bytes"], iterations, random, costs, memory)
+    if version == 1:
+        return parts1(drawn, detached, hash_name, iterations, passphrase, given)
+    return parts2(drawn, detached, hash_name, iterations, passphrase, costs, given)
 
 
 def judged_given(version, volume, detached, given):

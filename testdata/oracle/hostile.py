@@ -1,6 +1,5 @@
-"""Volumes that a stranger may hand over, and what is owed to them by reader.py and edits.py: volumes made of a number, and two whose headers are cut or changed.
-
-Each has its twin in the crate `luks_hostile_volumes`, which draws the same numbers in the same order and writes the same bytes.
+"""Hostile volumes: made of a number, or with a header that is cut or changed; the commands that are tried on each, and what reader.py, underway.py and edits.py
+answer. tests/suite/hostile.py asks the program the same.
 """
 import hashlib
 import struct
@@ -178,53 +177,11 @@ class Generated:
                 for i, place in enumerate((0, self.size))]
 
 
-class Transcript:
-    """Answers, one after another, as one text."""
-
-    def __init__(self):
-        self.answers = []
-
-    def add(self, told):
-        self.answers.append(f"{told[0]} {told[1]}")
-
-    def sum(self):
-        return hashlib.sha256("".join(self.answers).encode()).hexdigest()
-
-
-def edited(volume, edit):
-    """The answer to an edit by the program, which asks first how many random bytes are needed, and the volume that is left."""
-    count = edits.needed(volume, False, edit, over=False)
-    line, left = (count, volume) if isinstance(count, str) else edits.apply(volume, False, edit, RANDOM[:count], over=False)
-    return (int(line.startswith("refused")), line + "\n"), left
-
-
-def generated_answers(number):
-    """The commands of a number's volume with their answers, each with the sum of the volume that is left."""
-    made = Generated(number)
-    volume, first, other = made.volume, made.slots[0], made.dice.pick(made.slots)
-    yield ("volume",), (0, f"{number}\n"), volume
-    yield ("check",), reader.check(volume), volume
-    yield ("check", "--detached"), reader.check(volume, True), volume
-    for slot in (first, other):
-        yield ("open", passphrase(slot), slot), reader.open_volume(volume, passphrase(slot), slot)[:2], volume
-    yield ("open", passphrase(first), None), reader.open_volume(volume, passphrase(first))[:2], volume
-    yield ("open", WRONG, None), reader.open_volume(volume, WRONG)[:2], volume
-    told, left = edited(volume, edits.Add(first, passphrase(first), NEW))
-    yield ("add", passphrase(first), first), told, left
-    label = f"found_by_{first}".encode()
-    told, left = edited(left, edits.Label(label))
-    yield ("label", label), told, left
-
-
-def generated_sum(numbers):
-    """The sum of all answers to the volumes of these numbers."""
-    answers = Transcript()
-    for number in numbers:
-        for words, told, left in generated_answers(number):
-            answers.add(told)
-            if words[0] in ("volume", "add", "label"):
-                answers.answers.append(hashlib.sha256(left).hexdigest() + "\n")
-    return answers.sum()
+def questions(made):
+    """The commands that are tried on a volume made of a number, each on what the one before leaves."""
+    first, other = made.slots[0], made.dice.pick(made.slots)
+    return [("check",), ("check", "--detached"), *(("open", passphrase(slot), slot) for slot in (first, other)), ("open", passphrase(first), None),
+            ("open", WRONG, None), ("add", passphrase(first), first), ("label", f"found_by_{first}".encode())]
 
 
 # --- two volumes whose headers are cut and changed
@@ -251,7 +208,7 @@ def first2():
     value["tokens"] = {"5": {"keyslots": ["2"], "type": "t"}}
     text = images.compact(value)
     area = sealed_area("sha256", pbkdf2("sha256", b"one", salt, 1000, 64), key, b"")
-    # the rest of each key area's sector is zeros in the twin, which has no use for what is sealed there
+    # the rest of each key area's sector is zeros: nothing reads it
     parts = [(32768 + 4096 * n, area[:64]) for n in range(3)]
     return images.volume(LENGTH2, *images.copies(text), *parts), text
 
@@ -259,13 +216,11 @@ def first2():
 FIELDS2 = (6, 8, 16, 24, 72, 104, 168, 208, 256, 264, 448, 512, 4096)
 
 
-def cuts1():
-    _, ends = first1()
+def cuts1(ends):
     return [*range(593), *around(ends[1:], images.SAMPLE_LENGTH)]
 
 
-def cuts2():
-    _, text = first2()
+def cuts2(text):
     ends = [place + end for place in (0, 16384) for end in (*FIELDS2, 4096 + len(text), 16384)] + [36864, 40960, 45056, 49152, LENGTH2]
     return around(ends, LENGTH2)
 
@@ -276,18 +231,7 @@ def around(ends, length):
 
 OPEN = ("open", b"one", 0)
 HEADER = (("check",), ("check", "--detached"), ("show",))
-
-
-def answer(volume, words):
-    if words[0] == "check":
-        return reader.check(volume, len(words) > 1)
-    return underway.show(volume) if words[0] == "show" else underway.open_volume(volume, *words[1:])[:2]
-
-
-def cut_answers(volume, lengths):
-    for length in lengths:
-        for words in (*HEADER, OPEN):
-            yield (length, words), volume[:length], words
+BITS = (1, 2, 128)
 
 
 def flipped(volume, at, bits):
@@ -305,31 +249,36 @@ def renewed(volume, at):
 LONG1 = (164, 212)
 
 
-def changed1():
-    """Each byte of the LUKS1 header."""
-    volume, _ = first1()
-    for at in range(592):
-        for bits in (1, 2, 128):
-            changed = flipped(volume, at, bits)
-            for words in HEADER + ((OPEN,) if bits == 1 and at not in LONG1 else ()):
-                yield (at, bits, words), changed, words
+def cut_at(volume, length):
+    """The volume, cut to this length."""
+    cut = volume[:length]
+    for words in (*HEADER, OPEN):
+        yield cut, words
 
 
-def damaged2():
-    """Each byte of the two copies, with the checksum that was."""
-    volume, _ = first2()
-    for at in range(32768):
-        yield (at,), flipped(volume, at, 1), ("check",)
+def changed_at(volume, at):
+    """A byte changed in three ways."""
+    for bits in BITS:
+        changed = flipped(volume, at, bits)
+        for words in HEADER + ((OPEN,) if bits == 1 and at not in LONG1 else ()):
+            yield changed, words
 
 
-def rewritten2():
-    """Each byte of the binary header's fields, of the text and of the zero behind it, in both copies at once, with new checksums."""
-    volume, text = first2()
-    for at in (*range(512), *range(4096, 4096 + len(text) + 1)):
-        for bits in (1, 2, 128):
-            changed = renewed(renewed(flipped(flipped(volume, at, bits), 16384 + at, bits), 0), 16384)
-            for words in HEADER + ((OPEN,) if bits == 1 else ()):
-                yield (at, bits, words), changed, words
+def damaged_at(volume, at):
+    """A byte changed, with the checksum that was."""
+    yield flipped(volume, at, 1), ("check",)
+
+
+def rewritten_at(volume, at, header=HEADER):
+    """A byte changed in both copies at once in three ways, with new checksums."""
+    for bits in BITS:
+        changed = renewed(renewed(flipped(flipped(volume, at, bits), 16384 + at, bits), 0), 16384)
+        for words in header + ((OPEN,) if bits == 1 else ()):
+            yield changed, words
+
+
+def under_way_at(volume, at):
+    return rewritten_at(volume, at, (("check",), ("show",)))
 
 
 def first_under_way():
@@ -347,29 +296,82 @@ def first_under_way():
     return images.volume(LENGTH2, *images.copies(text), *((32768 + 4096 * n, area[:64]) for n in range(2))), text
 
 
-def rewritten_under_way():
-    """Each byte of its text, in both copies at once, with new checksums."""
-    volume, text = first_under_way()
-    for at in range(4096, 4096 + len(text) + 1):
-        for bits in (1, 2, 128):
-            changed = renewed(renewed(flipped(flipped(volume, at, bits), 16384 + at, bits), 0), 16384)
-            for words in (("check",), ("show",), *((OPEN,) if bits == 1 else ())):
-                yield (at, bits, words), changed, words
+def text_bytes(text):
+    """The places of the first copy's text, and of the zero behind it."""
+    return range(4096, 4096 + len(text) + 1)
 
 
+# of each kind the volume with what says its places, these places, and the volumes and commands that belong to one
 KINDS = {
-    "cuts1": lambda: cut_answers(first1()[0], cuts1()),
-    "cuts2": lambda: cut_answers(first2()[0], cuts2()),
-    "changed1": changed1,
-    "damaged2": damaged2,
-    "rewritten2": rewritten2,
-    "under_way": rewritten_under_way,
+    "cuts luks1": (first1, cuts1, cut_at),
+    "cuts luks2": (first2, cuts2, cut_at),
+    "changes luks1": (first1, lambda _: range(592), changed_at),
+    "damage luks2": (first2, lambda _: range(32768), damaged_at),
+    "changes luks2": (first2, lambda text: [*range(512), *text_bytes(text)], rewritten_at),
+    "changes under-way": (first_under_way, text_bytes, under_way_at),
 }
 
 
-def kind_sum(kind):
-    """The sum of all answers of a kind, and how many there are."""
-    answers = Transcript()
-    for _, volume, words in KINDS[kind]():
-        answers.add(answer(volume, words))
-    return answers.sum(), len(answers.answers)
+def runs(kind, first=0, step=1):
+    """The volumes and commands of a kind: at each place, or at one of so many, begun with the place of this number."""
+    make, places, at = KINDS[kind]
+    volume, more = make()
+    for place in places(more)[first::step]:
+        for changed, words in at(volume, place):
+            yield place, changed, words
+
+
+# --- the answers
+
+GROUP = 4
+EDITS = ("add", "label")
+
+
+def answer(volume, words):
+    """What the models answer to a command, and the volume that is left."""
+    command, *more = words
+    if command in EDITS:
+        return edited(volume, edits.Add(more[1], more[0], NEW) if command == "add" else edits.Label(more[0]))
+    if command == "check":
+        return reader.check(volume, bool(more)), volume
+    return underway.show(volume) if command == "show" else underway.open_volume(volume, *more)[:2], volume
+
+
+def edited(volume, edit):
+    """The answer to an edit by the program, which asks first how many random bytes are needed, and the volume that is left."""
+    count = edits.needed(volume, False, edit, over=False)
+    line, left = (count, volume) if isinstance(count, str) else edits.apply(volume, False, edit, RANDOM[:count], over=False)
+    return (int(line.startswith("refused")), line + "\n"), left
+
+
+def answers(step, answer=answer):
+    """Each place and command that a step of a transcript asks about, with the text that is answered; `answer` is as the function above.
+
+    `numbers N` takes four volumes made of the numbers from N on, with the sum of each volume, and of what each edit leaves; the other steps name a
+    kind, and which of its places are taken.
+    """
+    word, name, *part = step.split(" ")
+    if word != "numbers":
+        for place, volume, words in runs(f"{word} {name}", *map(int, part)):
+            yield (place, words), text_of(*answer(volume, words)[0])
+        return
+    for number in range(int(name), int(name) + GROUP):
+        made = Generated(number)
+        volume = made.volume
+        yield (number,), text_of(0, f"{number}\n") + sum_of(volume)
+        for words in questions(made):
+            told, volume = answer(volume, words)
+            yield (number, words), text_of(*told) + (sum_of(volume) if words[0] in EDITS else "")
+
+
+def text_of(status, line):
+    return f"{status} {line}"
+
+
+def sum_of(volume):
+    return hashlib.sha256(volume).hexdigest() + "\n"
+
+
+def answers_sum(step, answer=answer):
+    """The sum of all answers to a step."""
+    return hashlib.sha256("".join(text for _, text in answers(step, answer)).encode()).hexdigest()

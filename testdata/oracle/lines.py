@@ -1,6 +1,9 @@
-"""Lines of a transcript: the steps that `crates/luks_transcripts` reads, and what is owed to them."""
+"""Lines of a transcript: its steps (tests/README.md has their language), and what is owed to them."""
 import hashlib
 import sys
+
+import hints
+from commands import Words
 
 # An empty member of the metadata, which is filled so that the text has so many bytes: all of a JSON area of 12288 but the zero behind it.
 PAD, FULL = '"pad":""', 12287
@@ -33,7 +36,15 @@ class Transcript:
     def command(self, words, line, status, errors=()):
         """A command that prints this line, and these on standard error."""
         self.step("$", words)
-        self.owed += [f"$ {words}", line, *(f"! {error}" for error in errors), f"= {status}"]
+        before = hints.of_new_passphrase(Words(words), {name: self.bytes_of(name) for name in ("passphrase", "new")})
+        behind = hints.explained(line) + ([hints.IDENTIFIED.format("v")] if line == "done" and words.startswith("luks uuid v") else [])
+        said = [*(f"luks: {it}" for it in before), *errors, *(f"luks: {it}" for it in behind)]
+        self.owed += [f"$ {words}", line, *(f"! {it}" for it in said), f"= {status}"]
+
+    def bytes_of(self, name):
+        """What a file has that was given as a text; none of another one."""
+        how = self.files.get(name, ())
+        return how[0] if len(how) == 1 else None
 
     def sum(self, volume, most=None):
         part = volume[:most]

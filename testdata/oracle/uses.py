@@ -9,8 +9,11 @@ UBERBLOCKS = [label + 131072 + 1024 * it for label in (0, 262144) for it in rang
 
 
 def at(place, *texts):
-    """Whether one of these is there, wholly inside."""
-    return lambda front: any(front[place:place + len(text)] == text for text in texts)
+    """Whether one of these is there, wholly inside. The function has the place and the texts."""
+    def stands(front):
+        return any(front[place:place + len(text)] == text for text in texts)
+    stands.place, stands.texts = place, texts
+    return stands
 
 
 def has_uberblock(front):
@@ -148,3 +151,19 @@ def standing(volume):
     if copies == "first-only":
         return first(volume[:2 * copy["size"]])
     return None
+
+
+# how much of a disk `format` looks at for what is left behind
+LOOKED_AT = 2 * reader.SIZES[-1]
+
+
+def left_behind(front, name, own):
+    """What is said of what stands on a disk where formatting writes nothing: sound second copies of older headers, and two signatures. The new header has the
+    first `own` bytes."""
+    found = [(at, "the second copy of an older LUKS2 header") for at in reader.SIZES if own <= at and reader.sound(front, at) and reader.sound(front, at)["size"] == at]
+    found += [(at, text) for at, texts, text in LEFT if own <= at and any(front[at:at + len(it)] == it for it in texts)]
+    hint = [f"{name}: wipefs --offset BYTE takes it away, wipefs --all before format all"] if found else []
+    return [f"{name}: left at byte {at}: {text}" for at, text in found] + hint
+
+
+LEFT = [(1080, [b"\x53\xef"], "the signature of ext2, ext3 or ext4"), (4086, [b"SWAP-SPACE", b"SWAPSPACE2"], "the signature of swap")]
