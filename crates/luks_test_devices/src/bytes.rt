@@ -49,29 +49,12 @@ pub fn leave_behind(volume: &mut [u8], at: usize, from: &[u8], leave: Leave)
 }
 
 /// Writes so many bytes 0xFF from the place `at` on.
-pub(crate) fn put_ones(volume: &mut [u8], at: usize, len: usize)
+fn put_ones(volume: &mut [u8], at: usize, len: usize)
     requires { at + len ≤ length volume.old }
     ensures { volume.new ≡ written volume.old at (replicate len 0xFF) }
 {
     for i in 0..len {
         put(volume, at + i, &[0xFF]);
-    }
-}
-
-/// Writes the runs of equal bytes, each given by its place, the byte and how many they are, and then
-/// the changes, each over the bytes from its place on.
-pub fn put_all(volume: &mut [u8], runs: &[(usize, u8, usize)], changes: &[(usize, &[u8])]) {
-    for (at, byte, count) in runs {
-        put_run(volume, *at, *byte, *count);
-    }
-    for (at, bytes) in changes {
-        put(volume, *at, *bytes);
-    }
-}
-
-fn put_run(volume: &mut [u8], at: usize, byte: u8, count: usize) {
-    for i in 0..count {
-        put(volume, at.wrapping_add(i), &[byte]);
     }
 }
 
