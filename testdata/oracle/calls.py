@@ -139,19 +139,28 @@ class Calls:
             parts = converting.parts_of(source, payload == "elsewhere", len(target), self.of_word(random))
         except Fault as fault:
             return f"refused {fault}"
+        # first the first sectors of both copies' places are cleared; an area is copied by sectors, and a copy written by two calls
+        self.writes += 2 + sum(2 if at in (0, COPY) else len(part) // SECTOR for at, part in parts)
         wrote(parts)
         return "done"
+
+    def do_meta(self, length, last, data):
+        """An area of so many bytes that begins with these and ends with that one."""
+        area = self.of_word(data).ljust(int(length), b"\0")[:-1] + bytes([int(last)])
+        reader.metadata({"size": int(length) + 4096, "json": area})
+        return "accepted"
 
     def do_within(self, first, at, length, *call):
         return self.answer(" ".join(call)) + ", no other reads"
 
     def takes_memory(self, name):
         """LUKS1 is read, opened and edited without memory; a list takes some for its replies, and formatting and converting for metadata of LUKS2."""
+        if name in ("run", "format1", "format2", "convert", "convert-from"):
+            return name != "format1"
         try:
-            is_luks1 = reader.select(self.whole()) == 1
+            return reader.select(self.whole()) != 1
         except Fault:
-            is_luks1 = True
-        return name in ("run", "format2", "convert", "convert-from") or name != "format1" and not is_luks1
+            return False
 
     def do_starved(self, *call):
         before = "refused Memory, then " if self.takes_memory(call[0]) else ""

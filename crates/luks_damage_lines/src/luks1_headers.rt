@@ -1,12 +1,14 @@
 //! What is made of damaged LUKS1 headers.
 use luks_area::MemDevice;
 use luks_reading::{Allowed, open_slot};
-use luks_test_devices::old_bytes;
 use luks_vector_lines::{Malformed, Words, demand};
 use luks1_rebuilding::trial::{Opening, Untold, try_combinations};
 use luks1_rebuilding::{Given, Rebuild1Fault, rebuild1};
 use sha2::{Digest, Sha256};
 use std::alloc::Global;
+
+/// The bytes that a target has before.
+pub const OLD: u8 = 0x55;
 
 /// `[AT BIT]`: the volume with this bit of the byte at a place turned.
 pub fn turned(alloc: Global, bytes: &[u8], words: &mut Words<'_>) -> Result<MemDevice, Malformed> {
@@ -30,7 +32,7 @@ fn target(
 ) -> Result<Result<MemDevice, Rebuild1Fault>, Malformed> {
     let len = words.len()?;
     let mut source = turned(alloc, bytes, words)?;
-    let mut target = MemDevice::new(old_bytes(alloc, len)?);
+    let mut target = MemDevice::new(vec![in alloc; OLD; len]?);
     let rebuilt = rebuild1(&mut source, &mut target, given);
     Ok(rebuilt.map(|()| target))
 }

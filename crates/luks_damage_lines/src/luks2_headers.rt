@@ -1,8 +1,9 @@
 //! What is made of damaged LUKS2 headers.
+use crate::luks1_headers::OLD;
 use luks_area::MemDevice;
 use luks_reading::{Data, check};
 use luks_rebuilding::{Copies, Effort, Untold, Which, find_candidate, rebuild};
-use luks_test_devices::{counted, old_bytes};
+use luks_test_devices::counted;
 use luks_vector_lines::{Malformed, Words};
 use sha2::{Digest, Sha256};
 use std::alloc::Global;
@@ -66,7 +67,7 @@ pub fn front<'a>(bytes: &'a [u8], words: &mut Words<'_>) -> Result<&'a [u8], Mal
 pub fn rebuilt(alloc: Global, bytes: &[u8], words: &mut Words<'_>) -> Result<String, Malformed> {
     let image = front(bytes, words)?;
     let mut source = MemDevice::new(image.to_vec(alloc)?);
-    let mut target = MemDevice::new(old_bytes(alloc, words.len()?)?);
+    let mut target = MemDevice::new(vec![in alloc; OLD; words.len()?]?);
     let random = counted(alloc, 0, words.len()?)?;
     let asked = Asked::read(alloc, words)?;
     let uuid = asked.uuid.as_ref().map(|uuid| uuid.as_str());

@@ -89,7 +89,7 @@ fn change1(alloc: Global, change: Change1) -> Result<String, Malformed> {
     Ok(text)
 }
 
-/// By so many bits of the digest.
+/// Words for so many bits of the digest.
 fn of_digest(alloc: Global, bits: u32) -> Result<String, Malformed> {
     let counted = if bits == 1 { "bit" } else { "bits" };
     Ok(format!(in alloc; "with {bits} {counted} of the digest turned")?)

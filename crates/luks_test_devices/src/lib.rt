@@ -5,7 +5,7 @@
 mod bytes;
 mod devices;
 mod dice;
-mod generated;
+mod drawing;
 mod keyslots;
 mod luks1_volumes;
 mod luks2_volumes;
@@ -13,9 +13,9 @@ mod memory;
 mod sealed;
 mod sums;
 
-pub use bytes::{leave_behind, old_bytes, part, put};
+pub use bytes::{leave_behind, put};
 pub use devices::{Call, Front, Recording};
-pub use generated::generated;
+pub use drawing::generated;
 pub use luks1_volumes::small1;
 pub use luks2_volumes::small2;
 pub use memory::{BLOCKS, TakenMemory, grown_stack};

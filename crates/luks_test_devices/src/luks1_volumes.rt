@@ -35,8 +35,7 @@ fn put_keyslots(image: &mut [u8]) {
 
 /// The small LUKS1 volume by this hash, of 66048 bytes: keyslot n of 40 stripes at sector 8 + 8 n, the
 /// payload at 128; keyslot 0 opens by `one`.
-pub fn small1(alloc: Global, hash: HashName) -> Result<Vec<u8>, AllocError>
-{
+pub fn small1(alloc: Global, hash: HashName) -> Result<Vec<u8>, AllocError> {
     let area = key_area(alloc, hash, b"one")?;
     let mut image = vec![in alloc; 0u8; 66048]?;
     put_header(&mut image, hash);

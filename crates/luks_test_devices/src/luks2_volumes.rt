@@ -24,8 +24,7 @@ pub struct Fields<'a> {
 }
 
 /// A sound copy of a LUKS2 header for the place `at`, with a salt of zeros.
-pub fn copy_of(alloc: Global, at: u32, fields: &Fields<'_>) -> Result<Vec<u8>, AllocError>
-{
+pub fn copy_of(alloc: Global, at: u32, fields: &Fields<'_>) -> Result<Vec<u8>, AllocError> {
     let mut copy = vec![in alloc; 0u8; fields.size as usize]?;
     let magic = if at == 0 {
         b"LUKS\xBA\xBE"
@@ -110,10 +109,22 @@ pub fn small2(
     };
     let mut volume = vec![in alloc; 0u8; 66048]?;
     put(&mut volume, 0, copy_of(alloc, 0, &fields)?.as_slice());
-    put(&mut volume, 16384, copy_of(alloc, 16384, &fields)?.as_slice());
-    put(&mut volume, 32768, key_area(alloc, hash, b"one")?.as_slice());
+    put(
+        &mut volume,
+        16384,
+        copy_of(alloc, 16384, &fields)?.as_slice(),
+    );
+    put(
+        &mut volume,
+        32768,
+        key_area(alloc, hash, b"one")?.as_slice(),
+    );
     if let Some(hash) = second {
-        put(&mut volume, 36864, key_area(alloc, hash, b"two")?.as_slice());
+        put(
+            &mut volume,
+            36864,
+            key_area(alloc, hash, b"two")?.as_slice(),
+        );
     }
     Ok(volume)
 }

@@ -1,9 +1,8 @@
 //! The functions by their names.
 use crate::areas::{field, fit};
 use crate::argon2::{argon2, blake2b};
-use crate::ciphers::{aes, cbc, cbc_run, xts};
-use crate::derivation::{hash, hmac, keyslot_name, name, names, pbkdf2};
-use crate::older_hashes::{ripemd160, whirlpool};
+use crate::ciphers::{aes, cbc, xts};
+use crate::derivation::{hash, hmac, keyslot_name, name, names, pbkdf2, ripemd160, whirlpool};
 use crate::splitter::{in_turn, merge, split, take_in};
 use luks_vector_lines::{Functions, Malformed, Memory, Words};
 use luks_volume_lines::VolumeFunctions;
@@ -43,8 +42,8 @@ fn of_bytes(
         "in-turn" => in_turn(alloc, words)?,
         "take-in" => take_in(alloc, words)?,
         "aes" => aes(alloc, words)?,
-        "cbc" => cbc(alloc, words)?,
-        "cbc-run" => cbc_run(alloc, words)?,
+        "cbc" => cbc(alloc, false, words)?,
+        "cbc-run" => cbc(alloc, true, words)?,
         "xts" => xts(alloc, words)?,
         "blake2b" => blake2b(alloc, words)?,
         "ripemd160" => ripemd160(alloc, words)?,

@@ -11,7 +11,6 @@ mod argon2;
 mod ciphers;
 mod derivation;
 mod functions;
-mod older_hashes;
 mod splitter;
 
 use crate::functions::AllFunctions;

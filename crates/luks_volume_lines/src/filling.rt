@@ -1,7 +1,5 @@
-//! A disk with a part of it filled.
-//!
-//! The type of a window says what lies beside it, so that a contract for any device tells that of a disk behind one: no program
-//! shows a law.
+//! A disk of which a part is filled. The type of the window says which bytes lie beside it, so that the contract of `fill`,
+//! which is for any device, says that these don't change.
 ghost use Rattle.std.specs.Prelude.{◌≡◌, ℕ, length, min};
 ghost use Rattle.luks_area.specs.Memory.{memory_bytes};
 ghost use Rattle.luks_area.specs.Ranges.{SameOutside};

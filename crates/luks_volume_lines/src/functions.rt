@@ -106,7 +106,7 @@ impl VolumeFunctions {
         }
     }
 
-    /// What a function of the header gives that stands in the device.
+    /// What a function of the device's header gives.
     fn header(
         &mut self,
         alloc: Global,
@@ -123,6 +123,7 @@ impl VolumeFunctions {
             "bin2-uuid" => headers::bin2_uuid(alloc, volume, words),
             "bin2-summed" => headers::bin2_summed(alloc, volume, words),
             "bin2-renewed" => headers::bin2_renewed(alloc, volume, words),
+            "meta" => headers::meta(alloc, words),
             "select" => headers::selected(alloc, volume, words),
             _ => self.call(alloc, function, words),
         }

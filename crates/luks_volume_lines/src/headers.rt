@@ -1,6 +1,7 @@
-//! Headers of both versions, which stand in the device.
+//! The headers of either version on the device.
 use crate::volume::{self, Volume};
 use luks_area::Device;
+use luks_meta::Meta;
 use luks_test_devices::put;
 use luks_vector_lines::{Malformed, Words, bytes_of, demand, number_of, shown, told};
 use luks2_header::{Bin2, HeadFault, Luks1, Luks1Slot, Selected, select};
@@ -116,7 +117,7 @@ fn slot_of(bytes: &[u8], number: u8) -> Result<Result<Luks1Slot, HeadFault>, Mal
     Ok(Luks1::slot(entry, number))
 }
 
-/// The binary header that stands at the place that the next word gives, with the changes of the others.
+/// The binary header at the place that the next word gives, with the changes of the others.
 fn bin2_of(
     alloc: Global,
     volume: &mut Volume,
@@ -195,8 +196,8 @@ pub fn bin2_renewed(
     Ok(format!(in alloc; "{:?}", summed(&header.renewed(place, seqid, whole), &area))?)
 }
 
-/// `select CHANGE ..`: which header of the device is chosen, how the copies stand, its sequence number
-/// and its place, or the fault. With changes it is a device of the changed bytes, no call of which fails.
+/// `select CHANGE ..`: which header of the device is chosen, how the copies compare, its sequence number and its place, or the
+/// fault. If there are changes, the device has the changed bytes, and no call of it fails.
 pub fn selected(
     alloc: Global,
     volume: &mut Volume,
@@ -219,4 +220,15 @@ fn chosen(alloc: Global, volume: &mut Volume) -> Result<String, Malformed> {
         }
         Err(fault) => Ok(format!(in alloc; "{fault}")?),
     }
+}
+
+/// `meta LEN LAST BYTES`: whether a JSON area of so many bytes that begins with these is accepted, or its fault. LAST is the
+/// area's last byte.
+pub fn meta(alloc: Global, words: &mut Words<'_>) -> Result<String, Malformed> {
+    let mut area = vec![in alloc; 0u8; words.len()?]?;
+    let last = u8::try_from(words.number()?).ok().ok_or(Malformed::Number)?;
+    put(&mut area, 0, &words.bytes(alloc)?);
+    let end = area.len().saturating_sub(1);
+    put(&mut area, end, &[last]);
+    told(alloc, Meta::read(alloc, &area).map(|_| "accepted"))
 }

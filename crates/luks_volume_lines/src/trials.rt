@@ -8,7 +8,7 @@ use luks_area::{Device, Leave};
 use luks_edit::Step;
 use luks_reading::{Allowed, Version, check, open_slot};
 use luks_test_devices::{
-    self as devices, BLOCKS, Front, Recording, TakenMemory, leave_behind, part, put,
+    self as devices, BLOCKS, Front, Recording, TakenMemory, leave_behind, put,
 };
 use luks_vector_lines::{Malformed, Words, demand};
 use std::alloc::{AllocError, Global};
@@ -327,7 +327,7 @@ pub fn each(
     for (number, made) in whole.calls.iter().enumerate() {
         let (at, len) = made.range();
         let end = behind.saturating_add(len);
-        let new = part(&whole.written, behind, end);
+        let new = whole.written.get(behind..end).unwrap_or_default();
         behind = end;
         leave_behind(&mut want, at, new, leave);
         let ended = end_of(alloc, call, beside, &before, number as u64, leave)?;
