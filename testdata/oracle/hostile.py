@@ -1,6 +1,6 @@
 """Volumes that a stranger may hand over, and what is owed to them by reader.py and edits.py: volumes made of a number, and two whose headers are cut or changed.
 
-Each has its twin in the crate `luks_hostile_volumes`, which draws the same numbers in the same order and writes the same bytes.
+The volume of a number has its twin in the crate `luks_test_devices`, which draws the same numbers in the same order and writes the same bytes.
 """
 import hashlib
 import struct

@@ -40,7 +40,8 @@ enum Function {
 #[derive(Drop)]
 pub struct Call {
     function: Function,
-    payload: Data,
+    /// Whether the payload is on the device.
+    pub payload: Data,
     random: Vec<u8>,
 }
 
@@ -161,10 +162,5 @@ impl Call {
                 Answer::Converted(convert(alloc, device, payload, other, random))
             }
         })
-    }
-
-    /// Whether the payload is on the device.
-    pub fn payload(&self) -> Data {
-        self.payload
     }
 }

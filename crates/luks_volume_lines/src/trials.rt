@@ -246,7 +246,7 @@ struct Before {
 /// Whether the device is accepted as a LUKS2 volume.
 fn is_accepted(alloc: Global, device: &mut Volume, call: &Call) -> Result<bool, Malformed> {
     demand(device.failures() < u64::MAX)?;
-    Ok(match check(alloc, device, call.payload()) {
+    Ok(match check(alloc, device, call.payload) {
         Ok(report) => matches!(report.version, Version::Luks2 { .. }),
         Err(_) => false,
     })
