@@ -154,14 +154,8 @@ pub fn called(
     call.answer(alloc, device, &steps, &mut other)?.text(alloc)
 }
 
-/// Whether the device has these bytes; they are read into a buffer of as many.
-fn has(device: &mut Volume, bytes: &[u8], into: &mut [u8]) -> bool {
-    let is_within = into.len() as u64 <= device.len() && device.failures() < u64::MAX;
-    is_within && device.read_at(0, into).is_ok() && *into == *bytes
-}
-
 /// `starved CALL`: all memory is taken and given back in small blocks, so that one allocation of the call after another
-/// is refused. What it answers in the end, and whether it was refused memory before, which changes no byte.
+/// is refused. What it answers in the end, and whether it was refused memory before, and wrote nothing then.
 pub fn starved(
     alloc: Global,
     device: &mut Volume,
@@ -170,8 +164,7 @@ pub fn starved(
 ) -> Result<String, Malformed> {
     let steps = beside.steps(alloc)?;
     let mut other = beside.other(alloc)?;
-    let before = copied_whole(alloc, device)?;
-    let mut now = before.to_vec(alloc)?;
+    device.calls.clear();
     let mut taken = TakenMemory::take(alloc)?;
     let mut answer = call.answer(alloc, device, &steps, &mut other)?;
     let mut refused = "";
@@ -179,11 +172,13 @@ pub fn starved(
         if !answer.is_memory() {
             break;
         }
-        refused = if has(device, &before, &mut now) {
-            "refused Memory, then "
-        } else {
-            "other bytes are left, then "
-        };
+        let reads = |it: &devices::Call| matches!(it, devices::Call::Read { .. });
+        if !device.calls.iter().all(reads) {
+            refused = "written, and refused Memory, then ";
+        } else if refused.is_empty() {
+            refused = "refused Memory, then ";
+        }
+        device.calls.clear();
         taken.give_back();
         answer = call.answer(alloc, device, &steps, &mut other)?;
     }
