@@ -1,5 +1,6 @@
 """Hostile volumes: made of a number, or with a header that is cut or changed; the commands that are tried on each, and what reader.py, underway.py and edits.py
-answer. tests/suite/hostile.py asks the program the same.
+answer. tests/suite/hostile.py asks the program the same. The volume of a number has its twin in the crate luks_test_devices,
+which draws the same numbers in the same order and writes the same bytes.
 """
 import hashlib
 import struct

@@ -207,3 +207,37 @@ def opening2(hash_name="sha256", key_size=64, area_key_size=64, stripes=4000, af
     slot_key = pbkdf2(hash_name, passphrase, b"\x11" * 32, 1000, area_key_size)
     area = sealed_area(af_hash or hash_name, slot_key, key, pattern((stripes - 1) * key_size))
     return value, area, volume(LUKS2_LENGTH, *copies(compact(value)), (32768, area))
+
+
+def small1(hash_name="sha256"):
+    """LUKS1 of 40 stripes a slot: slot n lies at sector 8 + 8 n, the payload at 128; slot 0 opens by `one`."""
+    volume_key = counting(64)
+    head = Luks1(hash_spec=hash_name.encode(), payload_offset=128, digest_salt=b"\x22" * 32)
+    head.digest = pbkdf2(hash_name, volume_key, head.digest_salt, 1000, 20)
+    head.slots = [Entry(offset=8 + 8 * n, stripes=40) for n in range(8)]
+    head.slots[0] = Entry(ENABLED, 1000, b"\x11" * 32, 8, 40)
+    return volume(66048, (0, head.header()), (4096, head.seal(0, b"one", volume_key, pattern(39 * 64))))
+
+
+def small2(hash_name="sha256"):
+    """LUKS2 of 40 stripes and areas of 4096 bytes, with a region of eight of them and data from 65536 on; keyslot 0 opens by `one`."""
+    volume_key = counting(64)
+    slot = keyslot(hash_name, 1000, b"\x11" * 32, 32768, 64, 64, 40)
+    digest = pbkdf2(hash_name, volume_key, b"\x22" * 32, 1000, hashlib.new(hash_name).digest_size)
+    value = metadata({"0": slot}, hash_name, 1000, digest, b"\x22" * 32, offset=65536)
+    value["config"]["keyslots_size"] = "32768"
+    area = sealed_area(hash_name, pbkdf2(hash_name, b"one", b"\x11" * 32, 1000, 64), volume_key, pattern(39 * 64))
+    return volume(66048, *copies(compact(value)), (32768, area))
+
+
+def small_of_two(second="sha512"):
+    """small2 with keyslot 1 by the second hash, in the next area, which opens by `two`; the digest and keyslot 0 are by sha256."""
+    volume_key = counting(64)
+    slots, parts = {}, []
+    for n, (name, passphrase) in enumerate((("sha256", b"one"), (second, b"two"))):
+        slots[str(n)] = keyslot(name, 1000, b"\x11" * 32, 32768 + 4096 * n, 64, 64, 40)
+        slot_key = pbkdf2(name, passphrase, b"\x11" * 32, 1000, 64)
+        parts.append((32768 + 4096 * n, sealed_area(name, slot_key, volume_key, pattern(39 * 64))))
+    value = metadata(slots, "sha256", 1000, pbkdf2("sha256", volume_key, b"\x22" * 32, 1000, 32), b"\x22" * 32, offset=65536)
+    value["config"]["keyslots_size"] = "32768"
+    return volume(66048, *copies(compact(value)), *parts)

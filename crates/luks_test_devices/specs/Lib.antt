@@ -1,3 +1,1 @@
-pub mod Differing
-pub mod Losing
 pub mod Numbers

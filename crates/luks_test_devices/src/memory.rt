@@ -1,10 +1,7 @@
 //! Taking all memory, and giving it back in small blocks. The allocator of `rt try` can't be exhausted
 //! so.
-ghost use Rattle.std.specs.Prelude.{◌≡◌, ◌↔◌, ◌-◌, ◌<◌, ℕ, length, IfOk, IsTrue};
-
 use sha2::{Digest, Sha256};
 use std::alloc::{AllocError, Global};
-use std::marker::Model;
 
 /// How many blocks of 256 bytes are given back in turn.
 pub const BLOCKS: usize = 1024;
@@ -16,8 +13,6 @@ const STACK: usize = 1 << 20;
 const ROOM: usize = 2 * STACK;
 
 /// All memory that there was, but for the blocks of 256 bytes that were given back.
-///
-/// Contracts see how many blocks can still be given back; how much memory there was they can't say.
 #[derive(Drop)]
 pub struct TakenMemory {
     /// What is held to the end.
@@ -26,17 +21,9 @@ pub struct TakenMemory {
     blocks: Vec<Vec<u8>>,
 }
 
-impl Model for TakenMemory {
-    ghost Value = { ℕ };
-
-    ghost view = { λ memory. length memory.blocks.items };
-}
-
 impl TakenMemory {
     /// Takes what memory there is.
-    pub fn take(alloc: Global) -> Result<Self, AllocError>
-        ensures { IfOk result (λ memory. memory ≡ BLOCKS) }
-    {
+    pub fn take(alloc: Global) -> Result<Self, AllocError> {
         let more = usize::from(byte_of_the_stack());
         let mut held = Vec::with_capacity(alloc, (1 << 20) + more)?;
         let blocks = blocks_of(alloc)?;
@@ -44,17 +31,8 @@ impl TakenMemory {
         Ok(TakenMemory { held, blocks })
     }
 
-    /// How many blocks can still be given back.
-    pub fn left(&self) -> usize
-        ensures { result ≡ self.now }
-    {
-        self.blocks.len()
-    }
-
     /// Gives a block back, if one is left.
-    pub fn give_back(&mut self)
-        ensures { self.new ≡ self.old - 1 }
-    {
+    pub fn give_back(&mut self) {
         let _ = self.blocks.pop();
     }
 }
@@ -106,9 +84,7 @@ fn take_blocks(alloc: Global, held: &mut Vec<Vec<u8>>, size: usize) {
 }
 
 /// Blocks of 256 bytes.
-fn blocks_of(alloc: Global) -> Result<Vec<Vec<u8>>, AllocError>
-    ensures { IfOk result (λ blocks. length blocks.items ≡ BLOCKS) }
-{
+fn blocks_of(alloc: Global) -> Result<Vec<Vec<u8>>, AllocError> {
     let mut blocks: Vec<Vec<u8>> = Vec::with_capacity(alloc, BLOCKS)?;
     for _ in 0..BLOCKS {
         blocks.push(Vec::with_capacity(alloc, 256)?)?;
