@@ -107,7 +107,7 @@ install-library: bin/libluks.so.1
 	install -D -m 644 library/luks.h "$(DESTDIR)$(PREFIX)/include/luks.h"
 	for name in $(PYTHON_FILES); do install -D -m 644 "python/luks/$$name" "$(DESTDIR)$(PYTHONDIR)/luks/$$name" || exit 1; done
 	mkdir -p "$(DESTDIR)$(PREFIX)/lib/pkgconfig"
-	sed -e 's|@PREFIX@|$(PREFIX)|' -e "s|@VERSION@|$$(sed -n 's/^## \([0-9.]*\) .*/\1/p' CHANGELOG.md | head -n 1)|" library/libluks.pc.in \
+	sed -e 's|@PREFIX@|$(PREFIX)|' -e "s|@VERSION@|$$(sed -n 's/^## \([0-9.+]*\) .*/\1/p' CHANGELOG.md | head -n 1)|" library/libluks.pc.in \
 	  >"$(DESTDIR)$(PREFIX)/lib/pkgconfig/libluks.pc"
 	-$(LDCONFIG)
 

@@ -39,8 +39,7 @@ second-explained v s place some half is =
           subst (λ (n : ℕ). IsSound (volume_at v n) place.size) start (subst (λ (m : ℕ). IsSound (volume_at v is.start) m) second is.sound.sound)
     ]
 
--- metadata of a first copy is explained by a volume's sound first copy if it is that volume's second
--- copy
+-- metadata of a first copy is explained by a sound first copy of the volume whose second copy it is
 pub explained-first : (v : List ℕ) (s : ℕ) (place : Place) → place.at ≡ 0 → place.size ≤ s → IsListed place.size
     → IsSoundOf (volume_at v (s - place.size)) place.size 0 → IsExplained v s place
 explained-first v s place first low listed sound =

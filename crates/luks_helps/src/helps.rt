@@ -2,7 +2,7 @@
 
 /// What `--version` prints after the program's name: the version, whose section is the first of
 /// CHANGELOG.md, and the logic by which it is proved, as `rt version` says it behind the kit's name.
-pub const VERSION: &str = "0.2.0 (Rattle logic dac8208d650f15bf)";
+pub const VERSION: &str = "0.2.0+1 (Rattle logic dac8208d650f15bf)";
 
 /// What the program does, in a line.
 pub const PROGRAM: &str = "Checks and lists the header of a LUKS volume, and manages its keyslots";

@@ -1,5 +1,4 @@
--- The digest of a LUKS2 volume's metadata that tells a volume key: each digest takes it or not, and the key meets it or
--- not.
+-- The digest of a LUKS2 volume that a volume key meets: each digest takes the key or not, and the key meets it or not.
 use Rattle.std.proofs.Common.{rules, ◌≡◌, ◌⊎◌, ℕ, List, [], ◌∷◌, length, Bool, true, false, Some, refl, sym, ap, subst, ◌∙◌, inl, inr}
 use Rattle.std.specs.Prelude.{◌==◌}
 use Rattle.std.specs.List.{list_any}

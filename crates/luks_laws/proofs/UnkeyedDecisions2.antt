@@ -1,5 +1,4 @@
--- For a LUKS2 volume's accepted metadata: each fault for which the volume key gives no keyslot is there, or it
--- isn't.
+-- For accepted LUKS2 metadata: each fault for which the volume key gives no keyslot is there, or isn't.
 use Rattle.std.proofs.Common.{◌≡◌, ℕ, List, length, Bool, Option, Some, None, refl, subst, inl, inr}
 use Rattle.serde_json.specs.Data.{Data as Value}
 use Rattle.luks_json.specs.AreaText.{Json}

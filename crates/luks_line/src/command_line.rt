@@ -30,7 +30,7 @@ pub enum Asked<'a> {
 /// Reads a command line, of which the first word is the program's name.
 ///
 /// The fault is that of `clap`: a mistake in the words, a request for help, or memory that was
-/// refused. No clause says what words mean: `luks_line_transcript` tests it, and of `line` likewise.
+/// refused. No clause says what words mean: the transcripts test it.
 pub fn parse<'a>(alloc: Global, words: &'a [&'a str]) -> Result<Asked<'a>, Error> {
     let matches = matches_of(alloc, words)?;
     if let Some(text) = mistake_in(alloc, &matches)? {
@@ -39,17 +39,6 @@ pub fn parse<'a>(alloc: Global, words: &'a [&'a str]) -> Result<Asked<'a>, Error
     match asked_by(&matches) {
         Some(asked) => Ok(asked),
         None => Err(mistake(alloc, ErrorKind::MissingSubcommand, "no command was given")?),
-    }
-}
-
-/// Reads a command line that names a volume, as `parse` does. One that names none is a mistake in the
-/// words, too.
-pub fn line<'a>(alloc: Global, words: &'a [&'a str]) -> Result<Line<'a>, Error> {
-    match parse(alloc, words)? {
-        Asked::Volume(line, _) => Ok(line),
-        Asked::Explain(_) | Asked::Find(..) => {
-            Err(mistake(alloc, ErrorKind::InvalidSubcommand, "no volume was named")?)
-        }
     }
 }
 

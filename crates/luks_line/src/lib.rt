@@ -21,7 +21,7 @@ mod sizes;
 mod takes;
 mod tokens;
 
-pub use command_line::{Asked, line, parse};
+pub use command_line::{Asked, parse};
 pub use luks_request::{
     BackingUp, Command, Comparing, Converting, EditRequest, Editing, Line, Luks1Fields, Making,
     Meant, NewVersion, Place, Rebuilding, Restoring, ShowAs,

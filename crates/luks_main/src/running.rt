@@ -36,7 +36,7 @@ use std::{env, io};
 /// Runs the command line, and answers the exit status: beside those of `luks_execution::execute` 2 where the words
 /// are wrong, 0 where a help or an explanation was printed, and 4 where that can't be.
 ///
-/// No clause can say what its files and streams give: `luks_file_transcript` tests it. What a value can say has a
+/// No clause can say what its files and streams give: the transcripts test it. What a value can say has a
 /// clause where that value is made: which file is opened as what (`Openings`), and which status tells an answer.
 pub fn run<R: AllocGlobal + Clock + Env + Files<File = File> + Input + Print + Eprint>(rt: &R) -> u8
     ensures { IsProgramStatus result }

@@ -119,8 +119,7 @@ pub record IsUnstray (v : List ℕ) (payload : Data) (e : Edit) (random w : List
 -- says, and what follows of it
 pub record IsApplied (payload : Data) (v : List ℕ) (e : Edit) (random : List ℕ) (reply : Reply) (w : List ℕ) : Type 0 where
   pub replies : Replies payload v e random reply w
-  -- a volume that was well formed is well formed again, and nothing changed that the edit doesn't
-  -- name
+  -- a well formed volume is well formed again, and nothing changed that the edit doesn't name
   pub keeps : WellFormed v payload → (IsFailure reply → ⊥) → Keeps payload (λ n. IsCompleted reply × NamedSlots v e n) v w
   -- the keyslot that was made opens, the area that a keyslot lost is zeros, and where it isn't sealed again the
   -- keyslot opens no more
