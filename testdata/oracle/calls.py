@@ -129,7 +129,7 @@ class Calls:
         return self.formatted(2, *words)
 
     def do_convert(self, payload, random):
-        return self.converted(self.other, payload, self.whole(), random, self.wrote)
+        return self.converted(self.other, payload, self.whole(), random, self.wrote_target)
 
     def do_convert_from(self, payload, random):
         return self.converted(self.whole(), payload, self.other, random, lambda parts: None)
@@ -139,10 +139,13 @@ class Calls:
             parts = converting.parts_of(source, payload == "elsewhere", len(target), self.of_word(random))
         except Fault as fault:
             return f"refused {fault}"
-        # first the first sectors of both copies' places are cleared; an area is copied by sectors, and a copy written by two calls
-        self.writes += 2 + sum(2 if at in (0, COPY) else len(part) // SECTOR for at, part in parts)
         wrote(parts)
         return "done"
+
+    def wrote_target(self, parts):
+        """First the first sectors of both copies' places are cleared; an area is copied by sectors, and a copy written by two calls."""
+        self.writes += 2 + sum(2 if at in (0, COPY) else len(part) // SECTOR for at, part in parts)
+        self.wrote(parts)
 
     def do_meta(self, length, last, data):
         """An area of so many bytes that begins with these and ends with that one."""
