@@ -77,7 +77,7 @@ def of_written_over(words, name, before, answer):
 
 
 def of_standing(name, before, fault):
-    """What stands on a disk that has no header, by its signature."""
+    """The use of a disk that has no header, by its signature."""
     if before[:6] == b"LUKS\xde\xad":
         return [f"{name}: cryptsetup is in the midst of reencrypting this LUKS1 volume: luks explain Reencrypting"]
     found = uses.first(before[:HEADER1] if fault in ("SlotState", "Stripes") else before)
@@ -85,7 +85,7 @@ def of_standing(name, before, fault):
 
 
 def of_readable(name, before):
-    """By which commands a volume is read in which something is under way."""
+    """The commands that read a volume in which something is under way."""
     try:
         value = underway.under_way(before)
     except Fault:
@@ -109,7 +109,7 @@ def copy_of(source, second=False, size=None):
 
 
 def of_source(source, second, size):
-    """Of which metadata a header was made."""
+    """The copy whose metadata a header was made of."""
     found = copy_of(source, second, size)
     return [f"made of the metadata in the {found[0]} copy, which has {found[1]}", found[2]] if found else []
 
