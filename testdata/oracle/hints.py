@@ -74,7 +74,7 @@ def of_command(words, name, before, answer, status, fault):
 
 def of_written_over(words, name, before, answer):
     """What stood in the place of a damaged copy that an edit with --over has written over."""
-    if "over" in words.flags and answer.startswith("done") and words.command in EDITS:
+    if "over" in words.flags and answer.startswith("done") and words.command in EDITS and words.operands[1:2] != ["export"]:
         return [f"{name}: {it} stood in the place of a damaged copy, and was written over" for it in [uses.standing(before)] if it]
     return []
 
