@@ -256,7 +256,7 @@ static OPTIONS: [OptionRow; 67] = [
     OptionRow {
         name: "offset",
         needed: false,
-        help: "The byte of its file where it begins",
+        help: "The volume's first byte in its file",
         takes: Takes::Offset,
     },
     OptionRow {
