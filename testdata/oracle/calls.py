@@ -1,5 +1,5 @@
-"""What the lines of `crates/luks_vectors/stdin` owe that call the library on a whole volume: `reader.py`, `edits.py`, `formatting.py` and `converting.py` answer
-them. `vectors` has the other lines."""
+"""What the lines of `crates/luks_vectors/stdin` owe that call the library on a whole volume: `reader.py`, `edits.py`, `formatting.py` and
+`converting.py` answer them. `vectors` has the other lines."""
 import converting
 import edits
 import formatting
@@ -83,7 +83,8 @@ class Calls:
     def do_check(self, payload):
         line = reader.check(self.whole(), payload == "elsewhere")[1].strip()
         words = line.split(" ")
-        return " ".join(word.title().replace("-", "") if place == 2 and words[1] == "luks2" else word for place, word in enumerate(words)) if words[0] == "accepted" else line
+        return " ".join(word.title().replace("-", "") if place == 2 and words[1] == "luks2" else word for place,
+            word in enumerate(words)) if words[0] == "accepted" else line
 
     def do_open_slot(self, n, passphrase):
         _, line, key = reader.open_volume(self.whole(), self.of_word(passphrase), int(n))
@@ -118,7 +119,8 @@ class Calls:
         return ", ".join(self.applied(payload, edit, random) for edit, random in self.listed) or "nothing"
 
     def formatted(self, version, payload, random, hash_name, iterations, passphrase):
-        line, left = formatting.formatted(version, self.whole(), payload == "elsewhere", hash_name, int(iterations), self.of_word(passphrase), self.of_word(random))
+        line, left = formatting.formatted(version, self.whole(), payload == "elsewhere", hash_name, int(iterations), self.of_word(passphrase),
+            self.of_word(random))
         self.device.data[:] = left
         return line
 
@@ -129,7 +131,7 @@ class Calls:
         return self.formatted(2, *words)
 
     def do_convert(self, payload, random):
-        return self.converted(self.other, payload, self.whole(), random, self.wrote)
+        return self.converted(self.other, payload, self.whole(), random, self.wrote_target)
 
     def do_convert_from(self, payload, random):
         return self.converted(self.whole(), payload, self.other, random, lambda parts: None)
@@ -139,10 +141,13 @@ class Calls:
             parts = converting.parts_of(source, payload == "elsewhere", len(target), self.of_word(random))
         except Fault as fault:
             return f"refused {fault}"
-        # first the first sectors of both copies' places are cleared; an area is copied by sectors, and a copy written by two calls
-        self.writes += 2 + sum(2 if at in (0, COPY) else len(part) // SECTOR for at, part in parts)
         wrote(parts)
         return "done"
+
+    def wrote_target(self, parts):
+        """First the first sectors of both copies' places are cleared; an area is copied by sectors, and a copy written by two calls."""
+        self.writes += 2 + sum(2 if at in (0, COPY) else len(part) // SECTOR for at, part in parts)
+        self.wrote(parts)
 
     def do_meta(self, length, last, data):
         """An area of so many bytes that begins with these and ends with that one."""
@@ -167,7 +172,7 @@ class Calls:
         return before + self.answer(" ".join(call))
 
     def do_each(self, leave, *call):
-        """Which call fails changes nothing in what is told of it but, in a list, the replies before; the judging of what is left is the program's own."""
+        """What is told doesn't depend on which call fails, except for the replies before in a list. The program itself judges what is left."""
         kept, self.writes = bytes(self.device.data), 0
         last = self.answer(" ".join(call))
         self.device.data[:] = kept

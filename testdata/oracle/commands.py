@@ -36,4 +36,6 @@ class Words:
 
     def segment(self):
         """The segment that is given of LUKS2: where it begins, in bytes, its cipher, and how long its sectors are."""
-        return (512 * self.number("payload", 0), self.options["cipher"].encode(), self.number("sector-size", 0)) if "sector-size" in self.options else None
+        if "sector-size" not in self.options:
+            return None
+        return 512 * self.number("payload", 0), self.options["cipher"].encode(), self.number("sector-size", 0)

@@ -1,5 +1,5 @@
-"""What the lines of `crates/luks_vectors/stdin` owe that are about a damaged header, or about where volumes begin on a disk: rebuilding1.py, searching.py,
-rebuilding.py and finding.py answer them. `vectors` has the other lines."""
+"""What the lines of `crates/luks_vectors/stdin` owe that are about a damaged header, or about where volumes begin on a disk: rebuilding1.py,
+searching.py, rebuilding.py and finding.py answer them. `vectors` has the other lines."""
 import hashlib
 
 import finding
@@ -95,7 +95,8 @@ class Damage:
 
     def do_rebuild2(self, source, target, random, *words):
         volume, how = self.whole()[:int(source)], asked(words)
-        line, left = rebuilding.rebuilt(volume, how["second"], how["given"], OLD * int(target), images.pattern(int(random)), how["named"], how["thorough"])
+        line, left = rebuilding.rebuilt(volume, how["second"], how["given"], OLD * int(target), images.pattern(int(random)), how["named"],
+            how["thorough"])
         return f"{line.removeprefix('refused ')} {hashlib.sha256(left).hexdigest()}"
 
     def do_found2(self, source, *words):

@@ -11,6 +11,8 @@ DERIVATIONS = "at most {} derivations are made by the passphrase: Ctrl-C ends it
 NO_KEYSLOTS = ("{}: the volume has no keyslots: no passphrase opens it",
                "{}: the volume key still reads its data, of a mapping that is open or where it was kept: luks open --key tells whether it is the one")
 HEADER1 = 592
+# the edits, which write over another use of a disk with --over
+EDITS = ("add", "change", "remove", "erase", "repair", "label", "uuid", "priority", "token")
 FREE = reader.DISABLED.to_bytes(4, "big")
 
 
@@ -22,7 +24,7 @@ def explained(answer):
 
 
 def of_new_passphrase(words, given):
-    """What is said of a new passphrase before a volume is opened: of `add` and `change`, and of `format`; `given` are the passphrases by their files."""
+    """What is said of a new passphrase before a volume is opened, by `add`, `change` and `format`; `given` are the passphrases by their files."""
     file = {"add": "new", "change": "new", "format": "passphrase"}.get(words.command)
     if file is None:
         return []
@@ -36,13 +38,14 @@ def of_new_passphrase(words, given):
 
 
 def of_derivations(done, most):
-    """What is said before the first of so many derivations at most, and before the second; each reading of the suite's clock is a second later than the last."""
+    """What is said before the first of so many derivations at most, and before the second; the suite's clock is a second later at each reading."""
     took = f"{most} s" if most < 120 else f"{most // 60} minutes"
     return [DERIVATIONS.format(most)] * (done > 0) + [f"the first took 1000 ms, so all take some {took}"] * (done > 1)
 
 
 def of_ending(words, name, before, answer, status, made1=None):
-    """What is said once a command on a volume of this name has answered; `before` are the volume's bytes before it, `made1` the LUKS1 header that `rebuild` made."""
+    """What is said once a command on a volume of this name has answered; `before` are the volume's bytes before it, `made1` the LUKS1 header that
+    `rebuild` made."""
     fault = answer.removeprefix("refused ").partition("(")[0] if answer.startswith("refused ") else None
     said = of_written_over(words, name, before, answer)
     if fault in ("NotLuks", "NoSoundCopy", "SlotState", "Stripes"):
@@ -71,13 +74,13 @@ def of_command(words, name, before, answer, status, fault):
 
 def of_written_over(words, name, before, answer):
     """What stood in the place of a damaged copy that an edit with --over has written over."""
-    if "over" in words.flags and answer.startswith("done") and words.command not in ("backup", "key", "token", "restore", "convert", "rebuild", "format"):
+    if "over" in words.flags and answer.startswith("done") and words.command in EDITS and words.operands[1:2] != ["export"]:
         return [f"{name}: {it} stood in the place of a damaged copy, and was written over" for it in [uses.standing(before)] if it]
     return []
 
 
 def of_standing(name, before, fault):
-    """What stands on a disk that has no header, by its signature."""
+    """The use of a disk that has no header, by its signature."""
     if before[:6] == b"LUKS\xde\xad":
         return [f"{name}: cryptsetup is in the midst of reencrypting this LUKS1 volume: luks explain Reencrypting"]
     found = uses.first(before[:HEADER1] if fault in ("SlotState", "Stripes") else before)
@@ -85,7 +88,7 @@ def of_standing(name, before, fault):
 
 
 def of_readable(name, before):
-    """By which commands a volume is read in which something is under way."""
+    """The commands that read a volume in which something is under way."""
     try:
         value = underway.under_way(before)
     except Fault:
@@ -109,7 +112,7 @@ def copy_of(source, second=False, size=None):
 
 
 def of_source(source, second, size):
-    """Of which metadata a header was made."""
+    """The copy whose metadata a header was made of."""
     found = copy_of(source, second, size)
     return [f"made of the metadata in the {found[0]} copy, which has {found[1]}", found[2]] if found else []
 

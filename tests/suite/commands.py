@@ -26,7 +26,7 @@ def lines(before, text):
 
 
 class Told:
-    """What a command printed, its status, and whether a part of a secret stands in what it printed."""
+    """What a command printed, its status, and whether it printed a part of a secret."""
 
     def __init__(self, ran, secrets):
         self.out, self.err, self.status = ran.out, ran.err, ran.status
@@ -139,7 +139,7 @@ class Laying:
         os.makedirs("@system/sys/dev/block/7:3", exist_ok=True)
         put("@system/sys/dev/block/7:3/ro", b"0\n")
 
-    # what stands in a file's place if it isn't read
+    # what takes a file's place if it isn't read
 
     def absent(self, name, file):
         """There are no random bytes."""
@@ -161,7 +161,7 @@ class Laying:
         self.made.append(file)
 
     def not_found(self, *_):
-        """Nothing stands there."""
+        """There is no such file."""
 
     # what is left
 

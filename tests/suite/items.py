@@ -58,7 +58,9 @@ class Item:
 
     def told(self):
         """What `--list` says of it."""
-        more = ([f"needs {', '.join(self.needs)}"] if self.needs else []) + ([f"some {self.takes:.0f} s"] if self.takes else []) + ["slow"] * self.is_slow
+        more = [f"needs {', '.join(self.needs)}"] if self.needs else []
+        more += [f"some {self.takes:.0f} s"] if self.takes else []
+        more += ["slow"] if self.is_slow else []
         return f"{self.name}  {'; '.join(more)}" if more else self.name
 
 

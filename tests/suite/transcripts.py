@@ -1,4 +1,4 @@
-"""Transcripts: NAME.steps and NAME.owed, cut at headings into pieces that stand alone, run, and compared with what is owed."""
+"""Transcripts: NAME.steps and NAME.owed, cut at headings into pieces that need nothing of each other, run, and compared with what is owed."""
 import functools
 import os
 
@@ -54,7 +54,7 @@ def stands_alone(steps):
 
 
 class Piece:
-    """Steps that stand alone: whole headings. `given` are the last steps before them that gave a file."""
+    """Whole headings with their steps, which need nothing of other pieces. `given` are the last steps before them that gave a file."""
 
     def __init__(self, steps, given, owed=b""):
         self.steps, self.given, self.owed = steps, given, owed
@@ -94,7 +94,7 @@ def pieces(lines):
 
 
 def is_heading_of_file(line):
-    """Whether the line says what the runner has to know of the file, as `# needs: ..`; such lines stand before the first step."""
+    """Whether the line says what the runner has to know of the file, as `# needs: ..`; such lines are before the first step."""
     return line.startswith(("# needs: ", "# takes: ", "# language: ")) or line == "# slow"
 
 
@@ -165,7 +165,7 @@ def compared(told, owed):
 
 
 def next_step(told, number, owed, at):
-    """Where the next step's text begins in what is owed."""
+    """The place at which the next step's text begins in what is owed."""
     if number == len(told):
         return len(owed)
     begin = b"\n" + told[number][1].split(b"\n")[0].partition(b": ")[0]

@@ -25,10 +25,10 @@ impl Damage {
         given: Given::NOTHING,
     };
 
-    /// `given`: what `given::read` says is given from here on.
-    pub fn give(&mut self, alloc: Global, words: &mut Words<'_>) -> Result<(), Malformed> {
-        self.given = given::read(alloc, words)?;
-        Ok(())
+    /// `given`, and what `given::read` says.
+    pub fn given(alloc: Global, words: &mut Words<'_>) -> Result<Damage, Malformed> {
+        let given = given::read(alloc, words)?;
+        Ok(Damage { given })
     }
 
     /// What the function of this name gives of these bytes, or none if there is no such function.

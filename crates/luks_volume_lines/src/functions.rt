@@ -63,7 +63,7 @@ impl VolumeFunctions {
         match function {
             "lengthen" => volume::lengthen(alloc, &mut self.volume, words)?,
             "other" => self.beside.set_other(alloc, &mut self.volume)?,
-            "given" => self.damage.give(alloc, words)?,
+            "given" => self.damage = Damage::given(alloc, words)?,
             "step" => self.beside.add_step(alloc, words)?,
             "probe" => self.beside.add_probe(alloc, words)?,
             "fail" => volume::fail(alloc, &mut self.volume, words)?,
