@@ -6,11 +6,11 @@ use std::alloc::{AllocError, Global};
 /// How many blocks of 256 bytes are given back in turn.
 pub const BLOCKS: usize = 1024;
 
-/// How many bytes of the stack are touched before memory is taken: it can't grow any more then.
-const STACK: usize = 1 << 20;
+/// How many frames of the stack are touched before memory is taken: it can't grow any more then.
+const FRAMES: usize = 16;
 
-/// How many bytes of it are touched before any test takes memory.
-const ROOM: usize = 2 * STACK;
+/// How many of them are touched before any memory is taken.
+const ROOM: usize = 64;
 
 /// All memory that there was, but for the blocks of 256 bytes that were given back.
 #[derive(Drop)]
@@ -24,7 +24,7 @@ pub struct TakenMemory {
 impl TakenMemory {
     /// Takes what memory there is.
     pub fn take(alloc: Global) -> Result<Self, AllocError> {
-        let more = usize::from(byte_of_the_stack());
+        let more = usize::from(touched(FRAMES));
         let mut held = Vec::with_capacity(alloc, (1 << 20) + more)?;
         let blocks = blocks_of(alloc)?;
         take_all(alloc, &mut held);
@@ -38,22 +38,19 @@ impl TakenMemory {
 }
 
 /// Lets the stack grow, and answers a byte for which it has to: a program that takes memory calls it first. What
-/// takes memory away leaves some right below the stack, so that later it can't grow any more. Inlined it
-/// would leave its bytes above what is called later.
-#[inline(never)]
+/// takes memory away leaves some right below the stack, so that later it can't grow any more.
 pub fn grown_stack() -> u8 {
-    let bytes = [0x5A; ROOM];
-    let mut hasher = Sha256::new();
-    hasher.update(bytes.as_slice());
-    let [first, ..] = hasher.finalize();
-    first
+    touched(ROOM)
 }
 
-/// A byte for which the stack has to grow, since it is worked out of as many bytes there. Inlined it
-/// would leave them above what is called later.
-#[inline(never)]
-fn byte_of_the_stack() -> u8 {
-    let bytes = [0x5A; STACK];
+/// A byte that is worked out of so many frames of 64 KiB. It is a recursion, so that the frames aren't those of a caller.
+fn touched(frames: usize) -> u8 {
+    let below = if frames == 0 {
+        0x5A
+    } else {
+        touched(frames - 1)
+    };
+    let bytes = [below; 65536];
     let mut hasher = Sha256::new();
     hasher.update(bytes.as_slice());
     let [first, ..] = hasher.finalize();
