@@ -2,8 +2,7 @@
 use Rattle.std.proofs.Common.{◌≡◌, ◌≢◌, ◌↔◌, ◌⊎◌, ℕ, List, Bool, true, false, Option, Some, None, Result, Ok, Err, OnOk, IfErr, IsTrue, not, refl, sym, ap, subst, ◌∙◌, inl, inr}
 use Rattle.std.proofs.lemmas.Bool.{false≢true}
 use Rattle.luks_area.specs.Ranges.{part}
-use Rattle.luks2_header.proofs.ChoiceFacts.{choices_agree}
-use Rattle.luks2_header.specs.Selection.{nothing, luks1, luks2, Choice, Chosen, IsSelected}
+use Rattle.luks2_header.specs.Selection.{nothing, luks1, luks2, IsSelected}
 use Rattle.luks2_header.specs.declared.selection.Selected.{Selected}
 use Rattle.luks2_header.specs.declared.selection.Selected.TheVariants.{V1, V2}
 use Rattle.luks_reading.specs.Checked.{IsCheckRefusal, WellFormed}
@@ -12,20 +11,19 @@ use Rattle.luks_reading.specs.Reported.{IsFromOutside}
 use Rattle.luks_reading.specs.declared.check_fault.CheckFault.{CheckFault}
 use Rattle.luks_reading.specs.declared.check_fault.CheckFault.TheVariants as check
 use Rattle.luks_reading.specs.declared.header.Header.{Header}
-use Rattle.luks_reading.specs.declared.header.Header.TheVariants.{Luks1, Luks2}
 use Rattle.luks_reading.specs.declared.report.Data.TheVariants.{Elsewhere}
 use Rattle.luks_reading.proofs.CheckFacts.{outside}
 use Rattle.luks_reading.proofs.VolumeLaws.{well_formed_faultless}
-use Rattle.luks_keeping.specs.Laid.{choice_of}
-use Rattle.luks_keeping.specs.OtherHeaders.{read_uuid, selected_uuid}
-use Rattle.luks_keeping.specs.SameVolume.{uuid_bytes}
-use Rattle.luks_keeping.proofs.LaidFacts.{chosen_of}
+use Rattle.luks_keeping.specs.OtherHeaders.{selected_uuid}
+use Rattle.luks_keeping.specs.SameKeys.{Identifies}
+use Rattle.luks_keeping.specs.SameVolume.{uuid_bytes, IsSameVolume}
+use Rattle.luks_keeping.specs.declared.identity.Identity.{Identity}
 use Rattle.luks_signatures.specs.Signatures.{Finds, table}
 use Rattle.luks_signatures.specs.declared.other_use.OtherUse.{OtherUse as Use}
 use Rattle.luks_signatures.proofs.FirstFacts.{finds-one}
 use Rattle.luks_commands.specs.Answer.{answer_status, IsWordless, unread_answer}
 use Rattle.luks_commands.specs.Reencrypting.{IsReencrypting, IsUnaskedMetadata, IsUntoldMetadata}
-use Rattle.luks_commands.specs.Standing.{bar_answer, HasOther, HasUse, IsBar, IsBarAnswer, IsClear, IsHeaderBar, IsUnasked, IsUuidOf}
+use Rattle.luks_commands.specs.Standing.{bar_answer, HasOther, HasUse, IsBar, IsBarAnswer, IsClear, IsHeaderBar, IsOwn, IsOwnVolume, IsUnasked, IsUuidOf}
 use Rattle.luks_commands.specs.declared.answers.Answer.{Answer}
 use Rattle.luks_commands.specs.declared.answers.Status.TheVariants.{Done, NotInStep}
 use Rattle.luks_commands.specs.declared.inputs.InputFault.{InputFault}
@@ -75,25 +73,24 @@ clear_none over Other v clear is (inr (inr use_of)) = absurd (clear.use_of is us
 
 -- ---- the header
 
-uuid_of_header : (v : List ℕ) (h : Header) → IsHeader v h → read_uuid h ≡ uuid_bytes v (choice_of h)
-uuid_of_header v (Luks1 bytes) is = ap (λ l. part l 168 40) is.1
-uuid_of_header v (Luks2 copy) is = sym is.header.uuid
+-- one that is accepted is another's where it isn't of the same volume
+pub other_by : (own : Option (List ℕ)) (t : List ℕ) → WellFormed t Elsewhere → (b : Bool) → (IsTrue b ↔ IsOwnVolume own t) → IsTrue (not b) ↔ HasOther own t
+other_by own t formed true same = (λ q. absurd (false≢true q), λ x. absurd (x.other (same.0 refl)))
+other_by own t formed false same = (λ q. record { formed = formed; other = λ x. false≢true (same.1 x) }, λ x. refl)
 
--- one that is accepted is another's where its uuid's field isn't this one
-pub other_by : (v : List ℕ) (h : Header) (field_ : Option (List ℕ)) → IsHeader v h → WellFormed v Elsewhere → (b : Bool)
-    → (IsTrue b ↔ (Some (read_uuid h) ≡ field_)) → IsTrue (not b) ↔ HasOther field_ v
-other_by v h field_ is formed true same = (
-  λ q. absurd (false≢true q),
-  λ x. absurd (x.uuid (ap (λ c. Some (uuid_bytes v c)) (choices_agree v x.choice (choice_of h) x.chosen (chosen_of v h is)) ∙ ap Some (sym (uuid_of_header v h is)) ∙ same.0 refl)),
-)
-other_by v h field_ is formed false same = (
-  λ q. record { formed = formed; choice = choice_of h; chosen = chosen_of v h is; uuid = λ e. false≢true (same.1 (ap Some (uuid_of_header v h is) ∙ e)) },
-  λ x. refl,
-)
+-- what an identity tells of it, and where there is none
+pub own_told : (own : Option (List ℕ)) (t : List ℕ) (identity : Identity) (h : Header) (same : Bool)
+    → ((b u : List ℕ) → Identifies b identity → IsHeader u h → IsTrue same ↔ IsSameVolume b u) → IsOwn own (Some identity) → IsHeader t h → IsTrue same ↔ IsOwnVolume own t
+own_told None t identity h same by is stands = absurd is
+own_told (Some v) t identity h same by is stands = by v t is stands
+
+pub own_none : (own : Option (List ℕ)) (t : List ℕ) → IsOwn own None → IsTrue false ↔ IsOwnVolume own t
+own_none None t is = (λ q. absurd (false≢true q), λ x. absurd x)
+own_none (Some v) t is = (λ q. absurd (false≢true q), λ x. absurd (is t x))
 
 -- none is accepted where the check refuses the volume
-pub none_other : (v : List ℕ) (field_ : Option (List ℕ)) (f : CheckFault) → IsCheckRefusal v Elsewhere f → (IsFromOutside f → ⊥) → HasOther field_ v → ⊥
-none_other v field_ f refusal own x = own (outside v Elsewhere f (well_formed_faultless v Elsewhere x.formed) refusal)
+pub none_other : (v : List ℕ) (volume : Option (List ℕ)) (f : CheckFault) → IsCheckRefusal v Elsewhere f → (IsFromOutside f → ⊥) → HasOther volume v → ⊥
+none_other v volume f refusal own x = own (outside v Elsewhere f (well_formed_faultless v Elsewhere x.formed) refusal)
 
 -- ---- the source's uuid
 

@@ -1,17 +1,19 @@
 //! What stands on a device that a command would write over.
-ghost use Rattle.std.specs.Prelude.{◌≡◌, ◌≢◌, ◌↔◌, ◌+◌, ◌<◌, ◌^◌, IfErr, IfOk, IsTrue, OnOk, Some};
+ghost use Rattle.std.specs.Prelude.{◌≡◌, ◌≢◌, ◌↔◌, ◌+◌, ◌<◌, ◌^◌, List, ℕ, Option, IfErr, IfOk, IsTrue, OnOk, Some};
 ghost use Rattle.luks_area.specs.Device.{CountsFailure, IsUnchanged, is_failure};
-ghost use Rattle.luks_reading.specs.Header.{IsAcceptedHeader};
+ghost use Rattle.luks_reading.specs.Header.{IsAcceptedHeader, IsHeader};
 ghost use Rattle.luks_signatures.specs.Signatures.{Finds, table};
-ghost use Rattle.luks_keeping.specs.OtherHeaders.{read_uuid, selected_uuid};
 ghost use Rattle.luks_commands.specs.Answer.{answer_status};
-ghost use Rattle.luks_commands.specs.Standing.{bar_answer, HasOther, is_bar_failure, IsBar, IsClear, IsHeaderBar, IsHeaderClear, IsUnasked, IsUuidOf};
+ghost use Rattle.luks_commands.specs.Standing.{bar_answer, HasOther, is_bar_failure, IsBar, IsClear, IsHeaderBar, IsHeaderClear, IsOwn, IsOwnVolume, IsUnasked, IsUuidOf};
 ghost use Rattle.luks_area.specs.Ranges.{part};
+ghost use Rattle.luks_keeping.specs.OtherHeaders.{selected_uuid};
 
 use crate::answers::{Answer, Refusal, Status, device_fault};
 use crate::reencrypting::is_reencrypting;
-use luks_keeping::accepted_header;
-use luks_reading::{CheckFault, Data, Device, DeviceFault, Header, ReadFault, Selected, select};
+use luks_keeping::{Identity, accepted_header, identity_of, is_header_of};
+use luks_reading::{
+    CheckFault, Data, Device, DeviceFault, Header, ReadFault, Selected, read_header, select,
+};
 use luks_signatures::{OtherUse, first_use};
 use luks1_header::fields::field;
 use std::alloc::Global;
@@ -74,54 +76,53 @@ pub fn held_back<E: Write>(bar: Bar, file: &str, err: &mut E) -> Answer
     }
 }
 
-/// Refuses where an accepted LUKS header stands on the device whose uuid's field isn't this one, where the
-/// metadata of a reencryption does, or where the disk has another use. Where it may be written over nothing is asked, so that a place that can't be
-/// read stops nothing.
+/// Refuses where an accepted LUKS header stands on the device that isn't of the volume whose header has this identity,
+/// where the metadata of a reencryption does, or where the disk has another use. Where it may be written over nothing is
+/// asked, so that a place that can't be read stops nothing.
 ///
 /// Takes memory for the metadata of LUKS2 alone.
 #[inline(never)]
 pub fn judge_standing<D: Device>(
     alloc: Global,
     device: &mut D,
-    uuid: Option<[u8; 40]>,
+    own: &Option<Identity>,
     over: bool,
 ) -> Result<(), Bar>
     requires { D.failed device.old + 1 < 2 ^ 64 }
     ensures unchanged { IsUnchanged D.tells D.size D.bytes D.unsettled device.old device.new }
     ensures count { CountsFailure is_bar_failure result
         (D.failed device.old) (D.failed device.new) }
-    ensures barred { IfErr result
-        (IsBar D.tells over (HasOther uuid (D.bytes device.old)) (D.bytes device.old)) }
-    ensures clear { D.tells → OnOk result
-        (IsClear over (HasOther uuid (D.bytes device.old)) (D.bytes device.old)) }
+    ensures barred { (v : Option (List ℕ)) → (D.tells → IsOwn v own.now) → IfErr result
+        (IsBar D.tells over (HasOther v (D.bytes device.old)) (D.bytes device.old)) }
+    ensures clear { D.tells → (v : Option (List ℕ)) → IsOwn v own.now → OnOk result
+        (IsClear over (HasOther v (D.bytes device.old)) (D.bytes device.old)) }
 {
     if over {
         return Ok(());
     }
-    judge_headers(alloc, device, uuid)?;
+    judge_headers(alloc, device, own)?;
     match standing_use_of(device)? {
         Some(found) => Err(Bar::OtherUse(found)),
         None => Ok(()),
     }
 }
 
-/// Refuses where an accepted LUKS header stands there whose uuid's field isn't this one, or the metadata of a
-/// reencryption.
+/// Refuses where an accepted LUKS header of another volume stands there, or the metadata of a reencryption.
 fn judge_headers<D: Device>(
     alloc: Global,
     device: &mut D,
-    uuid: Option<[u8; 40]>,
+    own: &Option<Identity>,
 ) -> Result<(), Bar>
     requires { D.failed device.old + 1 < 2 ^ 64 }
     ensures unchanged { IsUnchanged D.tells D.size D.bytes D.unsettled device.old device.new }
     ensures count { CountsFailure is_bar_failure result
         (D.failed device.old) (D.failed device.new) }
-    ensures barred { IfErr result
-        (IsHeaderBar D.tells (HasOther uuid (D.bytes device.old)) (D.bytes device.old)) }
-    ensures clear { D.tells → OnOk result
-        (IsHeaderClear (HasOther uuid (D.bytes device.old)) (D.bytes device.old)) }
+    ensures barred { (v : Option (List ℕ)) → (D.tells → IsOwn v own.now) → IfErr result
+        (IsHeaderBar D.tells (HasOther v (D.bytes device.old)) (D.bytes device.old)) }
+    ensures clear { D.tells → (v : Option (List ℕ)) → IsOwn v own.now → OnOk result
+        (IsHeaderClear (HasOther v (D.bytes device.old)) (D.bytes device.old)) }
 {
-    if has_other(alloc, device, uuid)? {
+    if has_other(alloc, device, own)? {
         return Err(Bar::OtherVolume);
     }
     if is_reencrypting(alloc, device)? {
@@ -141,18 +142,22 @@ pub fn standing_use_of<D: Device>(device: &mut D) -> Result<Option<OtherUse>, De
     first_use(device, all)
 }
 
-/// Whether an accepted header stands there whose uuid's field isn't this one.
-fn has_other<D: Device>(alloc: Global, device: &mut D, uuid: Option<[u8; 40]>) -> Result<bool, Bar>
+/// Whether an accepted header of another volume stands there.
+fn has_other<D: Device>(
+    alloc: Global,
+    device: &mut D,
+    own: &Option<Identity>,
+) -> Result<bool, Bar>
     requires { D.failed device.old + 1 < 2 ^ 64 }
     ensures unchanged { IsUnchanged D.tells D.size D.bytes D.unsettled device.old device.new }
     ensures count { CountsFailure is_bar_failure result
         (D.failed device.old) (D.failed device.new) }
-    ensures has { D.tells → IfOk result (λ has.
-        IsTrue has ↔ HasOther uuid (D.bytes device.old)) }
+    ensures has { D.tells → (v : Option (List ℕ)) → IsOwn v own.now → IfOk result (λ has.
+        IsTrue has ↔ HasOther v (D.bytes device.old)) }
     ensures fault { IfErr result (IsUnasked D.tells (D.bytes device.old)) }
 {
     match accepted_header(alloc, device, Data::Elsewhere) {
-        Ok(header) => Ok(!has_uuid(&header, uuid)),
+        Ok(header) => Ok(!is_own(own, &header)),
         Err(CheckFault::Device) => Err(Bar::Device),
         Err(CheckFault::Memory) => Err(Bar::Memory),
         Err(CheckFault::Head(_)) => Ok(false),
@@ -161,17 +166,35 @@ fn has_other<D: Device>(alloc: Global, device: &mut D, uuid: Option<[u8; 40]>) -
     }
 }
 
-/// Whether the header has this uuid's field.
-fn has_uuid(header: &Header, uuid: Option<[u8; 40]>) -> bool
+/// Whether the header is of the same volume as the one of this identity.
+fn is_own(own: &Option<Identity>, header: &Header) -> bool
     requires { IsAcceptedHeader header.now }
-    ensures { IsTrue result ↔ (Some (read_uuid header.now) ≡ uuid) }
+    ensures { (v : Option (List ℕ)) (t : List ℕ) → IsOwn v own.now → IsHeader t header.now
+        → (IsTrue result ↔ IsOwnVolume v t) }
 {
-    let Some(uuid) = uuid else {
-        return false;
-    };
-    match header {
-        Header::Luks1(bytes) => &bytes[UUID..UUID_END] == uuid.as_slice(),
-        Header::Luks2(copy) => copy.header.uuid.as_slice() == uuid.as_slice(),
+    match own {
+        Some(identity) => is_header_of(identity, header),
+        None => false,
+    }
+}
+
+/// What tells the volume of the header that counts on the device, if one does that is accepted. Takes memory for the
+/// metadata of LUKS2 alone.
+#[inline(never)]
+pub fn identity_there<D: Device>(alloc: Global, device: &mut D) -> Result<Option<Identity>, Bar>
+    requires { D.failed device.old + 1 < 2 ^ 64 }
+    ensures unchanged { IsUnchanged D.tells D.size D.bytes D.unsettled device.old device.new }
+    ensures count { CountsFailure is_bar_failure result
+        (D.failed device.old) (D.failed device.new) }
+    ensures own { D.tells → IfOk result (IsOwn (Some (D.bytes device.old))) }
+    ensures fault { IfErr result (IsUnasked D.tells (D.bytes device.old)) }
+{
+    match read_header(alloc, device) {
+        Ok(header) => Ok(Some(identity_of(&header))),
+        Err(ReadFault::Head(_)) => Ok(None),
+        Err(ReadFault::Meta(_)) => Ok(None),
+        Err(ReadFault::Device) => Err(Bar::Device),
+        Err(ReadFault::Memory) => Err(Bar::Memory),
     }
 }
 

@@ -1,17 +1,14 @@
 -- What is answered of the target of a command that makes a header.
-use Rattle.std.proofs.Common.{◌≡◌, ℕ, List, Bool, true, false, Option, Some, None, ap, Result, Ok, Err, IfErr, OnOk, refl, sym, subst, ◌∙◌, inl, inr}
+use Rattle.std.proofs.Common.{◌≡◌, ℕ, List, Bool, true, false, Result, Ok, Err, IfErr, sym, subst, ◌∙◌, inl, inr}
 use Rattle.luks_area.specs.Device.{count_after, CountsFailure}
 use Rattle.luks_writing.specs.TwoDevices.{CountsAfter, CountsEither, IsOneFailure}
 use Rattle.luks_commands.specs.declared.answers.Answer.{Answer}
 use Rattle.luks_commands.specs.declared.inputs.InputFault.{InputFault}
-use Rattle.luks_commands.specs.Standing.{HasOther, HoldsBack, IsBar, IsBarAnswer, IsClear, IsUuidOf}
+use Rattle.luks_commands.specs.Standing.{bar_answer, HoldsBack, IsBar, IsBarAnswer, IsClear, IsUnasked}
 use Rattle.luks_commands.specs.declared.standing.Bar.{Bar}
 use Rattle.luks_commands.specs.declared.standing.Bar.TheVariants.{OtherUse, OtherVolume, Reencrypting, Memory, Device}
-use Rattle.luks2_header.proofs.ChoiceFacts.{choices_agree}
-use Rattle.luks2_header.specs.Selection.{nothing}
-use Rattle.luks_keeping.specs.SameVolume.{uuid_bytes}
-use Rattle.luks_commands.proofs.StandingFacts.{bar_answers, clear_none}
-use Rattle.luks_header_commands.specs.Target.{AnswersHeader, HoldsBackHeader, IsBarredHeader, IsLater, IsOtherTarget, IsUnbarredHeader, NoneFailed, Pair, pair_of}
+use Rattle.luks_commands.proofs.StandingFacts.{clear_none}
+use Rattle.luks_header_commands.specs.Target.{AnswersHeader, HoldsBackHeader, IsBarredHeader, IsLater, IsOtherTarget, IsTargetBar, IsUnbarredHeader, NoneFailed, Pair, pair_of}
 
 -- ---- what has begun later
 
@@ -47,10 +44,17 @@ bytes_later tells d e says later said told =
 
 -- ---- a target that isn't to be written over
 
+target_answers : (tells : Type 0) → tells → (over : Bool) (v t : List ℕ) (b : Bar) → IsTargetBar tells over v t b → IsBarAnswer (IsOtherTarget v t) t (bar_answer b)
+target_answers tells told over v t (OtherUse found) is = is.1 told
+target_answers tells told over v t OtherVolume is = is.1 told
+target_answers tells told over v t Reencrypting is = is.1 told
+target_answers tells told over v t Memory is = tt
+target_answers tells told over v t Device is = tt
+
 holds_barred : (tells : Type 0) (over : Bool) (d : Pair) (a : Answer) → IsBarredHeader tells over d a
     → tells → HoldsBack over (IsOtherTarget d.volume d.old) d.old d.new a
 holds_barred tells over d a held told = λ is stands.
-    (held.same told, subst (IsBarAnswer (IsOtherTarget d.volume d.old) d.old) (sym held.is) (bar_answers tells told over (IsOtherTarget d.volume d.old) d.old held.bar held.barred))
+    (held.same told, subst (IsBarAnswer (IsOtherTarget d.volume d.old) d.old) (sym held.is) (target_answers tells told over d.volume d.old held.bar held.barred))
 
 holds_unbarred : (tells : Type 0) (over : Bool) (says : List ℕ → Pair → Answer → Type 0) (unread : InputFault → Type 0) (HasRandom : List ℕ → Type 0) (d : Pair) (a : Answer)
     → IsUnbarredHeader tells over says unread HasRandom d a → tells → HoldsBack over (IsOtherTarget d.volume d.old) d.old d.new a
@@ -71,40 +75,28 @@ header_holds {D} tells size bytes failed over says unread HasRandom (Ok v) (Err 
 header_holds {D} tells size bytes failed over says unread HasRandom (Ok v) (Err g) (Err f) new a said = tt
 header_holds {D} tells size bytes failed over says unread HasRandom (Err f) volume_new old new a said = tt
 
--- ---- what bars the command, by the uuid of the volume
+-- ---- what bars the command
 
--- it has one, or none
-one_uuid : (v : List ℕ) (a b : Option (List ℕ)) → IsUuidOf v a → IsUuidOf v b → a ≡ b
-one_uuid v None None x y = refl
-one_uuid v None (Some b) none y = absurd (y.2 (choices_agree v y.0 nothing y.1 none))
-one_uuid v (Some a) None x none = absurd (x.2 (choices_agree v x.0 nothing x.1 none))
-one_uuid v (Some a) (Some b) x y = ap Some (x.3 ∙ (ap (uuid_bytes v) (choices_agree v x.0 y.0 x.1 y.1) ∙ sym y.3))
-
-pub target_bars : (tells : Type 0) (over : Bool) (v t : List ℕ) (u : Option (List ℕ)) → (tells → IsUuidOf v u) → (b : Bar) → IsBar tells over (HasOther u t) t b
-    → IsBar tells over (IsOtherTarget v t) t b
-target_bars tells over v t u is (OtherUse found) bars = bars
-target_bars tells over v t u is OtherVolume bars = (bars.0, λ told. (u, is told, bars.1 told))
-target_bars tells over v t u is Reencrypting bars = bars
-target_bars tells over v t u is Memory bars = bars
-target_bars tells over v t u is Device bars = bars
-
-pub target_clears : (over : Bool) (v t : List ℕ) (u : Option (List ℕ)) → IsUuidOf v u → IsClear over (HasOther u t) t → IsClear over (IsOtherTarget v t) t
-target_clears over v t u is clear = record {
-  volume = λ may x. clear.volume may (subst (λ (w : Option (List ℕ)). HasOther w t) (one_uuid v x.0 u x.1 is) x.2);
-  reencryption = clear.reencryption;
-  use_of = clear.use_of;
-}
+pub target_bars : (tells : Type 0) (over : Bool) (v t : List ℕ) (b : Bar) → IsBar tells over (IsOtherTarget v t) t b → IsTargetBar tells over v t b
+target_bars tells over v t (OtherUse found) bars = bars
+target_bars tells over v t OtherVolume bars = bars
+target_bars tells over v t Reencrypting bars = bars
+target_bars tells over v t Memory bars = (bars.0, λ told. inr (bars.1 told))
+target_bars tells over v t Device bars = bars
 
 -- of what was answered
-pub bars_answered : {X : Type 0} (tells : Type 0) (over : Bool) (v t : List ℕ) (u : Option (List ℕ)) → (tells → IsUuidOf v u) → (r : Result X Bar)
-    → IfErr r (IsBar tells over (HasOther u t) t) → IfErr r (IsBar tells over (IsOtherTarget v t) t)
-bars_answered tells over v t u is (Ok x) bars = bars
-bars_answered tells over v t u is (Err b) bars = target_bars tells over v t u is b bars
+pub bars_answered : {X : Type 0} (tells : Type 0) (over : Bool) (v t : List ℕ) (r : Result X Bar)
+    → IfErr r (IsBar tells over (IsOtherTarget v t) t) → IfErr r (IsTargetBar tells over v t)
+bars_answered tells over v t (Ok x) bars = bars
+bars_answered tells over v t (Err b) bars = target_bars tells over v t b bars
 
-pub clears_answered : {X : Type 0} (over : Bool) (v t : List ℕ) (u : Option (List ℕ)) → IsUuidOf v u → (r : Result X Bar)
-    → OnOk r (IsClear over (HasOther u t) t) → OnOk r (IsClear over (IsOtherTarget v t) t)
-clears_answered over v t u is (Ok x) clear = target_clears over v t u is clear
-clears_answered over v t u is (Err b) clear = clear
+-- why the volume's header isn't read
+pub unasked_target : (tells : Type 0) (over : Bool) (v t : List ℕ) (b : Bar) → over ≡ false → IsUnasked tells v b → IsTargetBar tells over v t b
+unasked_target tells over v t (OtherUse found) may is = absurd is
+unasked_target tells over v t OtherVolume may is = absurd is
+unasked_target tells over v t Reencrypting may is = absurd is
+unasked_target tells over v t Memory may is = (may, λ told. inl (is told))
+unasked_target tells over v t Device may is = tt
 
 -- the volume's call hadn't failed, and the target's counts
 pub counts_then : {X F : Type 0} (is_failure : F → Bool) (r : Result X F) (s t u w : ℕ) → t ≡ s → CountsFailure is_failure r u w → CountsEither is_failure r s t u w

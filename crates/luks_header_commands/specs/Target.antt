@@ -1,10 +1,14 @@
 -- The target of a command that makes a separate header: what is answered of it.
-use Rattle.std.specs.Prelude.{◌≡◌, ◌⊎◌, ℕ, List, Option, Bool, Result, Ok, Err, ⊤}
+use Rattle.std.specs.Prelude.{◌≡◌, ◌⊎◌, ℕ, List, Some, Bool, false, Result, Ok, Err, ⊤}
 use Rattle.luks_writing.specs.TwoDevices.{CountsAfter}
 use Rattle.luks_commands.specs.declared.answers.Answer.{Answer}
 use Rattle.luks_commands.specs.declared.inputs.InputFault.{InputFault}
 use Rattle.luks_commands.specs.Answer.{unread_answer}
-use Rattle.luks_commands.specs.Standing.{HasOther, HoldsBack, IsBar, IsClear, IsHeldBack, IsUuidOf}
+use Rattle.luks_commands.specs.Reencrypting.{IsUnaskedMetadata}
+use Rattle.luks_commands.specs.Standing.{HasOther, HoldsBack, IsBar, IsClear, IsHeldBack}
+use Rattle.luks_commands.specs.declared.standing.Bar.{Bar}
+use Rattle.luks_commands.specs.declared.standing.Bar.TheVariants as bar
+use Rattle.luks_reading.specs.Header.{NeedsMetadata}
 
 -- of two devices that are there: the bytes of the volume and of the target, and how many of their calls
 -- had failed before the command and after it
@@ -48,14 +52,19 @@ pub record IsWithoutRandom (tells : Type 0) (unread : InputFault → Type 0) (d 
   pub met : unread fault
   pub is : a ≡ unread_answer fault
 
--- the target `t` has an accepted header with another uuid than the volume `v`, which may have none
+-- the target `t` has an accepted header that isn't of the same volume as that of `v`
 abbrev pub IsOtherTarget : List ℕ → List ℕ → Type 0
-IsOtherTarget v t = (field_ : Option (List ℕ)) × IsUuidOf v field_ × HasOther field_ t
+IsOtherTarget v t = HasOther (Some v) t
+
+-- what bars the command, unless it may write over that; memory is taken for the metadata of both
+abbrev pub IsTargetBar : Type 0 → Bool → List ℕ → List ℕ → Bar → Type 0
+IsTargetBar tells over v t bar.Memory = (over ≡ false) × (tells → NeedsMetadata v ⊎ (NeedsMetadata t ⊎ IsUnaskedMetadata t))
+IsTargetBar tells over v t other = IsBar tells over (IsOtherTarget v t) t other
 
 -- what stands on the target bars the command, and nothing was done
 abbrev pub IsBarredHeader : Type 0 → Bool → Pair → Answer → Type 0
 IsBarredHeader tells over d a =
-    IsHeldBack tells (IsBar tells over (IsOtherTarget d.volume d.old) d.old) (λ is_failure. CountsAfter is_failure d.volume_before d.volume_after d.before d.after) d.old d.new a
+    IsHeldBack tells (IsTargetBar tells over d.volume d.old) (λ is_failure. CountsAfter is_failure d.volume_before d.volume_after d.before d.after) d.old d.new a
 
 -- nothing bars it, and the random bytes can't be read, or this is answered with them
 pub record IsUnbarredHeader (tells : Type 0) (over : Bool) (says : List ℕ → Pair → Answer → Type 0) (unread : InputFault → Type 0) (HasRandom : List ℕ → Type 0) (d : Pair) (a : Answer)

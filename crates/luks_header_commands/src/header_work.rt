@@ -5,17 +5,17 @@ ghost use Rattle.luks_area.specs.Device.{IsSettled, IsUnchanged};
 ghost use Rattle.luks_commands.specs.Answer.{answer_status};
 ghost use Rattle.luks_commands.specs.Files.{AreFirstBytes, IsUnreadRandom, KeepsVolume};
 ghost use Rattle.luks_commands.specs.declared.answers.Answer.{Answer as TheAnswer};
-ghost use Rattle.luks_commands.specs.Standing.{bar_answer, is_bar_failure, IsBar, IsClear};
+ghost use Rattle.luks_commands.specs.Standing.{bar_answer, is_bar_failure, IsClear};
 ghost use Rattle.luks_writing.specs.TwoDevices.{CountsEither};
 ghost use Rattle.luks_commands.specs.Beside.{AreOneFile};
-ghost use Rattle.luks_header_commands.specs.Target.{AnswersHeader, IsLater, IsOtherTarget};
+ghost use Rattle.luks_header_commands.specs.Target.{AnswersHeader, IsLater, IsOtherTarget, IsTargetBar};
 ghost use Rattle.luks_commands.specs.Beside.{IsSameFile, LeavesTarget, SettlesTarget};
 ghost use Rattle.luks_header_commands.specs.Target.{Pair, pair_of};
 
 use crate::progress::{DerivationProgress, Progress, SearchProgress};
 use luks_commands::{
-    Answer, Bar, Inputs, Refusal, Status, are_one_file, held_back, judge_standing, random_bytes,
-    unread, uuid_of,
+    Answer, Bar, Inputs, Refusal, Status, are_one_file, held_back, identity_there, judge_standing,
+    random_bytes, unread,
 };
 use luks_reading::Device;
 use luks_request::Place;
@@ -169,8 +169,8 @@ fn held_back_of<E: Write>(bar: Bar, is_volume: bool, files: &HeaderFiles<'_>, er
     }
 }
 
-/// Refuses where the target has an accepted header with another uuid than the volume's, or another use,
-/// unless it may be written over.
+/// Refuses where the target has an accepted header of another volume, the metadata of a reencryption or another use,
+/// unless it may be written over. A volume without an accepted header of its own has none on the target either.
 #[inline(never)]
 fn judge_target<D: Device>(
     alloc: Global,
@@ -184,14 +184,14 @@ fn judge_target<D: Device>(
     ensures unchanged { IsUnchanged D.tells D.size D.bytes D.unsettled target.old target.new }
     ensures count { CountsEither is_bar_failure result (D.failed volume.old)
         (D.failed volume.new) (D.failed target.old) (D.failed target.new) }
-    ensures barred { IfErr result (IsBar D.tells over
-        (IsOtherTarget (D.bytes volume.old) (D.bytes target.old)) (D.bytes target.old)) }
+    ensures barred { IfErr result
+        (IsTargetBar D.tells over (D.bytes volume.old) (D.bytes target.old)) }
     ensures clear { D.tells → OnOk result (IsClear over
         (IsOtherTarget (D.bytes volume.old) (D.bytes target.old)) (D.bytes target.old)) }
 {
     if over {
         return Ok(());
     }
-    let uuid = uuid_of(volume)?;
-    judge_standing(alloc, target, uuid, over)
+    let own = identity_there(alloc, volume)?;
+    judge_standing(alloc, target, &own, over)
 }

@@ -13,7 +13,6 @@ use Rattle.luks_keeping.specs.AreasCompared.{AreAlike, IsJudgedBy, LiesWithin}
 use Rattle.luks_keeping.specs.Compared.{HasSaltAs, IsCompared, IsComparedInFull, StandsInFull, StandsSo}
 use Rattle.luks_keeping.specs.Laid.{choice_of, IsLaidOut}
 use Rattle.luks_keeping.specs.Places.{AreInside}
-use Rattle.luks_keeping.specs.OtherHeaders.{read_uuid}
 use Rattle.luks_keeping.specs.Outlines.{Outlines}
 use Rattle.luks_keeping.specs.SameKey.{SharesDigest}
 use Rattle.luks_keeping.specs.SameKeys.{Identifies, Shares}
@@ -59,11 +58,6 @@ pub identified : (b : List ℕ) (o : Outline) → Outlines b o → Identifies b 
 identified b o x = record { header = x.header; is_header = x.is_header; is = x.is.identity }
 
 module _ (b t : List ℕ) (o p : Outline) (x : Outlines b o) (y : Outlines t p) where
-  pub one_uuid_of : (same : Bool) → (IsTrue same ↔ (p.identity.uuid ≡ o.identity.uuid)) → IsTrue same ↔ (read_uuid y.header ≡ read_uuid x.header)
-  one_uuid_of same e =
-      subst (λ (u : List ℕ). IsTrue same ↔ (u ≡ read_uuid x.header)) y.is.identity.uuid
-      (subst (λ (u : List ℕ). IsTrue same ↔ (p.identity.uuid ≡ u)) x.is.identity.uuid e)
-
   pub shares_of : (shares : Bool) → (IsTrue shares ↔ Shares o.identity p.identity) → IsTrue shares ↔ SharesDigest b t
   shares_of shares e = (
     λ q. shares_digest b t x.header y.header o.identity p.identity x.is.identity y.is.identity x.is_header y.is_header (e.0 q),

@@ -1,34 +1,23 @@
 -- The digests that two headers have in common.
-use Rattle.std.proofs.Common.{◌≡◌, ℕ, ◌<◌, List, Option, Some, None, slice_index_or, refl, sym, ap, subst, ◌∙◌, arith, Result, Ok, Err, IfErr, OnOk}
+use Rattle.std.proofs.Common.{◌≡◌, ℕ, ◌<◌, List, Option, Some, None, slice_index_or, refl, sym, ap, subst, ◌∙◌, arith}
 use Rattle.serde_json.specs.Data.{Data as Value}
 use Rattle.luks_area.specs.Ranges.{part}
-use Rattle.luks2_header.proofs.ChoiceFacts.{choices_agree, uuid_sound}
-use Rattle.luks2_header.specs.Header2.{header_at, uuid_field}
-use Rattle.luks2_header.specs.Selection.{luks1, luks2, nothing, Choice}
+use Rattle.luks2_header.proofs.ChoiceFacts.{choices_agree}
+use Rattle.luks2_header.specs.Selection.{Choice}
 use Rattle.luks_rules.proofs.AreaFaults.{one_value}
-use Rattle.luks_rules.proofs.Deciding.{metadata_faultless}
 use Rattle.luks_rules.specs.Faults.{member_at}
 use Rattle.luks_rules.specs.Reading.{bytes_in}
 use Rattle.luks_rules.specs.declared.table.Member.TheVariants as member
 use Rattle.luks_rules.specs.declared.table.Outer.TheVariants.{Top}
 use Rattle.luks_meta.specs.Content.{content}
-use Rattle.luks_reading.specs.Header.{json_at, IsHeader, IsReadFaultAs, IsUnread}
+use Rattle.luks_reading.specs.Header.{json_at, IsHeader}
 use Rattle.luks_reading.specs.declared.header.Header.{Header}
 use Rattle.luks_reading.specs.declared.header.Header.TheVariants.{Luks1, Luks2}
-use Rattle.luks_reading.specs.declared.read_fault.ReadFault.{ReadFault}
-use Rattle.luks_reading.specs.declared.read_fault.ReadFault.TheVariants as read
 use Rattle.luks_keeping.specs.Laid.{choice_of}
-use Rattle.luks_keeping.specs.OtherHeaders.{IsOtherAnswer}
-use Rattle.luks_keeping.specs.RestoreFaults.{IsKeptFrom}
 use Rattle.luks_keeping.specs.SameKey.{HasDigestAs, HasDigestIn, SharesDigest}
-use Rattle.luks_keeping.specs.SameKeys.{unread_key, FindsDigest, HasHeaderDigest, HasKeyDigest, HasNumbered, IsHeaderDigest, IsIdentity, IsKeyAnswer, Shares}
-use Rattle.luks_keeping.specs.SameVolume.{HasOtherUuid}
+use Rattle.luks_keeping.specs.SameKeys.{FindsDigest, HasHeaderDigest, HasKeyDigest, HasNumbered, IsHeaderDigest, IsIdentity, Shares}
 use Rattle.luks_keeping.specs.declared.identity.Identity.{Identity}
 use Rattle.luks_keeping.specs.declared.identity.KeyDigest.{KeyDigest}
-use Rattle.luks_keeping.specs.declared.over.Over.{Over}
-use Rattle.luks_keeping.specs.declared.over.Over.TheVariants.{SameVolume}
-use Rattle.luks_keeping.specs.declared.restore_fault.RestoreFault.{RestoreFault}
-use Rattle.luks_keeping.specs.declared.restore_fault.RestoreFault.TheVariants.{OtherVolume, Memory, Device}
 use Rattle.luks_keeping.proofs.LaidFacts.{chosen_of}
 
 -- ---- a header that was read has the digests of its volume
@@ -130,37 +119,3 @@ module _ (b t : List ℕ) (h k : Header) (here there : Identity) (own : IsIdenti
       let two : HasKeyDigest there x.salt x.bytes = digest_to k there others x.salt x.bytes
       (digest_in t k stands x.salt x.bytes (subst (λ (c : Choice). HasDigestAs t c x.salt x.bytes) (choices_agree t x.other (choice_of k) x.counts (chosen_of t k stands)) x.there)) in
       record { number = one.number; numbered = one.numbered; is = record { salt = x.salt; bytes = x.bytes; own = one.is; other = two } }
-
--- ---- a header that isn't read has none
-
-no_digest : (t : List ℕ) (c : Choice) (f : ReadFault) → IsReadFaultAs t c f → (salt bytes : List ℕ) → HasDigestAs t c salt bytes → ⊥
-no_digest t luks1 f bad salt bytes d = bad
-no_digest t (luks2 o copies) (read.Head f) bad salt bytes d = uuid_sound (uuid_field (header_at t o)) d.uuid f bad
-no_digest t (luks2 o copies) (read.Meta f) bad salt bytes d = (metadata_faultless (json_at t o)).1 (d.value, d.accepted) f bad
-no_digest t (luks2 o copies) read.Device bad salt bytes d = bad
-no_digest t (luks2 o copies) read.Memory bad salt bytes d = bad
-no_digest t nothing f bad salt bytes d = d
-
-pub unread_answer : (b t : List ℕ) (f : ReadFault) → IsUnread t f → IsKeyAnswer b t (unread_key f)
-unread_answer b t (read.Head f) x = λ s.
-    no_digest t s.other (read.Head f) (subst (λ (c : Choice). IsReadFaultAs t c (read.Head f)) (choices_agree t x.0.choice s.other x.0.chosen s.counts) x.0.fault) s.salt s.bytes s.there
-unread_answer b t (read.Meta f) x = λ s.
-    no_digest t s.other (read.Meta f) (subst (λ (c : Choice). IsReadFaultAs t c (read.Meta f)) (choices_agree t x.0.choice s.other x.0.chosen s.counts) x.0.fault) s.salt s.bytes s.there
-unread_answer b t read.Device x = tt
-unread_answer b t read.Memory x = x
-
--- ---- a header with another uuid
-
-other_key : (b t : List ℕ) → HasOtherUuid b t → (f : RestoreFault) → IsKeyAnswer b t f → IsOtherAnswer b t SameVolume f
-other_key b t uuid OtherVolume x = record { uuid = uuid; key = x }
-other_key b t uuid Memory x = (uuid, x)
-other_key b t uuid Device x = tt
-other_key b t uuid other x = x
-
-pub refused_by_key : {A : Type 0} (b t : List ℕ) (over : Over) → over ≡ SameVolume → HasOtherUuid b t → (r : Result A RestoreFault) → IfErr r (IsKeyAnswer b t) → IfErr r (IsOtherAnswer b t over)
-refused_by_key b t over same uuid (Ok u) x = x
-refused_by_key b t over same uuid (Err f) x = subst (λ (o : Over). IsOtherAnswer b t o f) (sym same) (other_key b t uuid f x)
-
-pub kept_by_key : {A : Type 0} (b t : List ℕ) (over : Over) → over ≡ SameVolume → (r : Result A RestoreFault) → OnOk r (SharesDigest b t) → OnOk r (IsKeptFrom b t over → ⊥)
-kept_by_key b t over same (Ok u) x = λ kept. (subst (IsKeptFrom b t) same kept).key x
-kept_by_key b t over same (Err f) x = x

@@ -22,6 +22,7 @@ pub mod AsReadFacts
 pub mod RescueFacts
 pub mod KeyFacts
 pub mod OtherFacts
+pub mod RecordFacts
 pub mod SaltFacts
 pub mod CompareFacts
 pub mod ComparisonFacts

@@ -1,11 +1,11 @@
--- Whether a header that counts on a device is of the backup's volume.
-use Rattle.std.proofs.Common.{◌≡◌, ◌↔◌, ℕ, List, Bool, false, IsTrue, sym, ◌∙◌}
+-- Whether a header counts on a device.
+use Rattle.std.proofs.Common.{◌≡◌, ◌↔◌, ℕ, List, false, IsTrue}
 use Rattle.std.proofs.lemmas.Bool.{false≢true}
 use Rattle.luks2_header.specs.Selection.{nothing, luks1, luks2, Chosen, IsSelected}
 use Rattle.luks2_header.specs.declared.selection.Selected.{Selected}
 use Rattle.luks2_header.specs.declared.selection.Selected.TheVariants.{V1, V2}
 use Rattle.luks2_header.proofs.ChoiceFacts.{choices_agree}
-use Rattle.luks_keeping.specs.SameVolume.{CountsSameVolume, HasAnyHeader, IsOtherVolume}
+use Rattle.luks_keeping.specs.SameVolume.{HasAnyHeader}
 
 -- what was selected counts
 pub any_selected : (t : List ℕ) (s : Selected) → IsSelected t s → HasAnyHeader t
@@ -16,11 +16,3 @@ any_selected t (V2 header copies) is =
 -- nothing does
 pub none_counts : (t : List ℕ) → Chosen t nothing → IsTrue false ↔ HasAnyHeader t
 none_counts t none = (λ q. absurd (false≢true q), λ x. absurd (x.some (choices_agree t x.choice nothing x.counts none)))
-
--- without one none of the same volume counts
-pub none_same : (b t : List ℕ) (has : Bool) → has ≡ false → (IsTrue has ↔ HasAnyHeader t) → IsTrue false ↔ CountsSameVolume b t
-none_same b t has lacks is = (λ q. absurd (false≢true q), λ x. absurd (false≢true (sym lacks ∙ is.1 x.header)))
-
--- another's isn't
-pub other_counts : (b t : List ℕ) → IsOtherVolume b t → IsTrue false ↔ CountsSameVolume b t
-other_counts b t other = (λ q. absurd (false≢true q), λ x. absurd (x.own other))

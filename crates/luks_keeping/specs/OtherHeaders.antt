@@ -1,19 +1,18 @@
 -- What is told of the header that counts on a target: words of private contracts.
-use Rattle.std.specs.Prelude.{ℕ, List, Bool, true, false, ⊤}
+use Rattle.std.specs.Prelude.{ℕ, List, ⊤}
 use Rattle.luks_area.specs.First.{IsLeast}
 use Rattle.luks_area.specs.Ranges.{part}
 use Rattle.luks2_header.specs.Selection.{luks1, luks2, Choice}
 use Rattle.luks2_header.specs.declared.selection.Selected.{Selected}
 use Rattle.luks2_header.specs.declared.selection.Selected.TheVariants.{V1, V2}
 use Rattle.luks_reading.specs.Checked.{check_key}
+use Rattle.luks_reading.specs.Header.{NeedsMetadata}
 use Rattle.luks_reading.specs.declared.header.Header.{Header}
 use Rattle.luks_reading.specs.declared.header.Header.TheVariants.{Luks1, Luks2}
 use Rattle.luks_reading.specs.declared.report.Data.{Data}
 use Rattle.luks_keeping.specs.Judged.{IsFaultOn}
 use Rattle.luks_keeping.specs.RestoreFaults.{IsKeptFrom, ReadsTarget}
-use Rattle.luks_keeping.specs.SameVolume.{HasOtherUuid}
 use Rattle.luks_keeping.specs.declared.over.Over.{Over}
-use Rattle.luks_keeping.specs.declared.over.Over.TheVariants.{SameVolume}
 use Rattle.luks_keeping.specs.declared.restore_fault.RestoreFault.{RestoreFault}
 use Rattle.luks_keeping.specs.declared.restore_fault.RestoreFault.TheVariants.{NotAccepted, DoesNotFit, OtherVolume, Memory, Device}
 
@@ -31,16 +30,11 @@ abbrev pub selected_choice : Selected → Choice
 selected_choice (V1 bytes) = luks1
 selected_choice (V2 header copies) = luks2 header.hdr_offset copies
 
--- whether it has another uuid
-abbrev pub TellsOther : List ℕ → List ℕ → Bool → Type 0
-TellsOther b t true = HasOtherUuid b t
-TellsOther b t false = HasOtherUuid b t → ⊥
-
 -- the answer where it is another volume's
 abbrev pub IsOtherAnswer : List ℕ → List ℕ → Over → RestoreFault → Type 0
 IsOtherAnswer b t over OtherVolume = IsKeptFrom b t over
 IsOtherAnswer b t over Device = ⊤
-IsOtherAnswer b t over Memory = ReadsTarget b t over
+IsOtherAnswer b t over Memory = ReadsTarget t over
 IsOtherAnswer b t over (NotAccepted f) = ⊥
 IsOtherAnswer b t over (DoesNotFit f) = ⊥
 
@@ -53,7 +47,7 @@ IsUnfit b payload total Memory = ⊥
 IsUnfit b payload total Device = ⊥
 
 -- it isn't told whether a header of the same volume counts
-abbrev pub IsUntoldSame : List ℕ → List ℕ → RestoreFault → Type 0
-IsUntoldSame b t Memory = ReadsTarget b t SameVolume
-IsUntoldSame b t Device = ⊤
-IsUntoldSame b t f = ⊥
+abbrev pub IsUntoldSame : List ℕ → RestoreFault → Type 0
+IsUntoldSame t Memory = NeedsMetadata t
+IsUntoldSame t Device = ⊤
+IsUntoldSame t f = ⊥

@@ -8,7 +8,7 @@ use Rattle.luks_reading.specs.declared.check_fault.CheckFault.TheVariants as che
 use Rattle.luks_reading.specs.declared.report.Data.{Data}
 use Rattle.luks_reading.specs.declared.report.Data.TheVariants.{Elsewhere}
 use Rattle.luks_keeping.specs.Judged.{IsFaultOn}
-use Rattle.luks_keeping.specs.SameVolume.{HasOtherUuid, IsOtherVolume}
+use Rattle.luks_keeping.specs.SameVolume.{IsOtherVolume}
 use Rattle.luks_keeping.specs.declared.over.Over.{Over}
 use Rattle.luks_keeping.specs.declared.over.Over.TheVariants.{AnyVolume, SameVolume}
 use Rattle.luks_keeping.specs.declared.restore_fault.RestoreFault.{RestoreFault}
@@ -68,13 +68,13 @@ pub record CanRestore (b t : List ℕ) (payload : Data) (over : Over) : Type 0 w
   pub none : (f : RestoreFault) → IsRestoreFault b t payload over f → ⊥
 
 -- memory is taken for the metadata of the target, to compare the digests
-abbrev pub ReadsTarget : List ℕ → List ℕ → Over → Type 0
-ReadsTarget b t SameVolume = HasOtherUuid b t × NeedsMetadata t
-ReadsTarget b t AnyVolume = ⊥
+abbrev pub ReadsTarget : List ℕ → Over → Type 0
+ReadsTarget t SameVolume = NeedsMetadata t
+ReadsTarget t AnyVolume = ⊥
 
 -- the answer is the first of the faults; or memory was refused, for the metadata of the backup or of the
 -- target; or a device failed
 abbrev pub IsAnsweredRestore : List ℕ → List ℕ → Data → Over → RestoreFault → Type 0
-IsAnsweredRestore b t payload over Memory = NeedsMetadata b ⊎ ReadsTarget b t over
+IsAnsweredRestore b t payload over Memory = NeedsMetadata b ⊎ ReadsTarget t over
 IsAnsweredRestore b t payload over Device = ⊤
 IsAnsweredRestore b t payload over f = IsLeast restore_key (IsRestoreFault b t payload over) f

@@ -17,8 +17,9 @@ pub enum RestoreFault {
     NotAccepted(CheckFault),
     /// `check` would refuse the volume as it would be.
     DoesNotFit(CheckFault),
-    /// The header that counts on the target is another volume's: it has another uuid, and no digest of
-    /// the backup's volume key, or its metadata isn't accepted, so that none can be compared.
+    /// The header that counts on the target is another volume's: the digest of a `crypt` segment isn't the same
+    /// record in both, or, without such a segment, the uuid is another. Or it isn't accepted, so that no digest can
+    /// be compared.
     OtherVolume,
     /// Memory was refused.
     Memory,

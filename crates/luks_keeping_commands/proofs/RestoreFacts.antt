@@ -16,9 +16,8 @@ use Rattle.luks_reading.specs.declared.check_fault.CheckFault.{CheckFault}
 use Rattle.luks_reading.proofs.CheckFacts.{outside}
 use Rattle.luks_reading.proofs.VolumeLaws.{uuid_faultless, well_formed_faultless}
 use Rattle.luks_keeping.specs.OtherHeaders.{IsUntoldSame}
-use Rattle.luks_keeping.specs.SameVolume.{CountsSameVolume}
-use Rattle.luks_keeping.specs.RestoreFaults.{is_restore_failure, CanRestore, IsAnsweredRestore, ReadsTarget}
-use Rattle.luks_keeping.specs.declared.over.Over.TheVariants.{SameVolume}
+use Rattle.luks_keeping.specs.SameVolume.{IsSameVolume}
+use Rattle.luks_keeping.specs.RestoreFaults.{is_restore_failure, CanRestore, IsAnsweredRestore}
 use Rattle.luks_keeping.specs.Restored.{IsOfRestored, IsSegmentOn, RestoresInTurn}
 use Rattle.luks_keeping.specs.declared.over.Over.{Over}
 use Rattle.luks_keeping.specs.declared.restore_fault.RestoreFault.{RestoreFault}
@@ -218,10 +217,10 @@ use_bars tells r b t bar.Device clear is = tt
 -- the same of what was answered, and where nothing does
 use_moved : (tells : Type 0) (over : Bool) (b mid t : List ℕ) (x : Bar) → (tells → mid ≡ t) → IsUseBar tells over b mid x → IsUseBar tells over b t x
 use_moved tells over b mid t (bar.OtherUse found) same is =
-    (is.0, λ told. subst (λ (l : List ℕ). HasUse l found × WellFormed b Elsewhere × (CountsSameVolume b l → ⊥)) (same told) (is.1 told))
+    (is.0, λ told. subst (λ (l : List ℕ). HasUse l found × WellFormed b Elsewhere × (IsSameVolume b l → ⊥)) (same told) (is.1 told))
 use_moved tells over b mid t bar.OtherVolume same is = absurd is
 use_moved tells over b mid t bar.Reencrypting same is = absurd is
-use_moved tells over b mid t bar.Memory same is = λ told. subst (λ (l : List ℕ). NeedsMetadata b ⊎ ReadsTarget b l SameVolume) (same told) (is told)
+use_moved tells over b mid t bar.Memory same is = λ told. subst (λ (l : List ℕ). NeedsMetadata b ⊎ NeedsMetadata l) (same told) (is told)
 use_moved tells over b mid t bar.Device same is = tt
 
 pub use_barred : (tells : Type 0) (r : Restoring) (b mid t : List ℕ) (x : Result Unit Bar) → (tells → mid ≡ t)
@@ -239,7 +238,7 @@ pub counts_late : (x : Result Unit Bar) (s t u m w : ℕ) → m ≡ u → Counts
 counts_late x s t u m w same count = subst (λ (n : ℕ). CountsEither is_bar_failure x s t n w) same count
 
 -- another use may be written over, or may not
-pub spared_by : (b t : List ℕ) (counts : Bool) → WellFormed b Elsewhere → (IsTrue counts ↔ CountsSameVolume b t) → IsSpared b t counts
+pub spared_by : (b t : List ℕ) (counts : Bool) → WellFormed b Elsewhere → (IsTrue counts ↔ IsSameVolume b t) → IsSpared b t counts
 spared_by b t true formed told = λ f. told.0 refl
 spared_by b t false formed told = (formed, λ x. false≢true (told.1 x))
 
@@ -247,7 +246,7 @@ pub unaccepted_spared : (b t : List ℕ) (f : CheckFault) → IsCheckRefusal b E
 unaccepted_spared b t f refusal own = λ formed. absurd (own (outside b Elsewhere f (well_formed_faultless b Elsewhere formed) refusal))
 
 -- or it isn't told
-pub unspared_by : (tells : Type 0) (b t : List ℕ) (f : RestoreFault) (x : Bar) → is_bar_failure x ≡ is_restore_failure f → meta.IsFromOutside x → (tells → IsUntoldSame b t f)
+pub unspared_by : (tells : Type 0) (b t : List ℕ) (f : RestoreFault) (x : Bar) → is_bar_failure x ≡ is_restore_failure f → meta.IsFromOutside x → (tells → IsUntoldSame t f)
     → IsUnspared tells b t x
 unspared_by tells b t f bar.Device same kinds untold = tt
 unspared_by tells b t Memory bar.Memory same kinds untold = λ told. inr (untold told)

@@ -10,8 +10,8 @@ use Rattle.luks_reading.specs.Checked.{WellFormed}
 use Rattle.luks_reading.specs.Header.{NeedsMetadata}
 use Rattle.luks_reading.specs.declared.report.Data.{Data}
 use Rattle.luks_reading.specs.declared.report.Data.TheVariants.{Elsewhere}
-use Rattle.luks_keeping.specs.RestoreFaults.{CanRestore, IsAnsweredRestore, ReadsTarget}
-use Rattle.luks_keeping.specs.SameVolume.{CountsSameVolume}
+use Rattle.luks_keeping.specs.RestoreFaults.{CanRestore, IsAnsweredRestore}
+use Rattle.luks_keeping.specs.SameVolume.{IsSameVolume}
 use Rattle.luks_keeping.specs.Restored.{IsOfRestored, IsRestored, IsSegmentOn, RestoresInTurn}
 use Rattle.luks_keeping.specs.declared.over.Over.{Over}
 use Rattle.luks_keeping.specs.declared.over.Over.TheVariants.{AnyVolume, SameVolume}
@@ -91,17 +91,17 @@ IsPutBackAnswer tells restoring d a =
 -- another use, where no header of the backup's volume counts. Memory is taken for the metadata of both.
 abbrev pub IsRestoreBar : Type 0 → Restoring → List ℕ → List ℕ → Bar → Type 0
 IsRestoreBar tells restoring b t (bar.OtherUse found) =
-    (restoring.over ≡ false) × (tells → HasUse t found × WellFormed b Elsewhere × (CountsSameVolume b t → ⊥)
+    (restoring.over ≡ false) × (tells → HasUse t found × WellFormed b Elsewhere × (IsSameVolume b t → ⊥)
     × (restoring.over_reencryption ≡ false → IsReencrypting t → ⊥))
 IsRestoreBar tells restoring b t bar.OtherVolume = ⊥
 IsRestoreBar tells restoring b t bar.Reencrypting = (restoring.over_reencryption ≡ false) × (tells → IsReencrypting t)
-IsRestoreBar tells restoring b t bar.Memory = tells → IsUnaskedMetadata t ⊎ (NeedsMetadata b ⊎ ReadsTarget b t SameVolume)
+IsRestoreBar tells restoring b t bar.Memory = tells → IsUnaskedMetadata t ⊎ (NeedsMetadata b ⊎ NeedsMetadata t)
 IsRestoreBar tells restoring b t bar.Device = ⊤
 
 -- nothing does
 pub record IsRestoreClear (restoring : Restoring) (b t : List ℕ) : Type 0 where
   pub reencryption : restoring.over_reencryption ≡ false → IsReencrypting t → ⊥
-  pub use_of : restoring.over ≡ false → WellFormed b Elsewhere → (CountsSameVolume b t → ⊥) → (found : Use) → HasUse t found → ⊥
+  pub use_of : restoring.over ≡ false → WellFormed b Elsewhere → (IsSameVolume b t → ⊥) → (found : Use) → HasUse t found → ⊥
 
 -- where both files are there: the command is barred before its first write, or nothing bars it and this is answered
 abbrev pub AnswersBoth : Type 0 → Restoring → Pair → Answer → Type 0
@@ -140,7 +140,7 @@ IsUsedAnswer t a = ⊥
 -- and none where another use stands there and no header of the volume of an accepted backup `b` counts.
 pub record HoldsVolume (restoring : Restoring) (b t w : List ℕ) (a : Answer) : Type 0 where
   pub reencryption : restoring.over_reencryption ≡ false → IsReencrypting t → (w ≡ t) × IsReencryptingAnswer a
-  pub use_of : restoring.over ≡ false → WellFormed b Elsewhere → (CountsSameVolume b t → ⊥) → (found : Use) → HasUse t found → (w ≡ t) × IsUsedAnswer t a
+  pub use_of : restoring.over ≡ false → WellFormed b Elsewhere → (IsSameVolume b t → ⊥) → (found : Use) → HasUse t found → (w ≡ t) × IsUsedAnswer t a
 
 -- the same of files that are there and tell their bytes
 abbrev pub HoldsBackRestore : {D : Type 0} → Type 0 → (D → List ℕ) → Restoring → Result D InputFault → Result D InputFault → Result D InputFault → Answer → Type 0
@@ -152,24 +152,24 @@ HoldsBackRestore {D} tells bytes restoring old new backup a = ⊤
 -- whether another use of the disk `t` may be written over by the backup `b`: it isn't accepted, so that nothing is written, or a header
 -- of its volume counts
 abbrev pub IsSpared : List ℕ → List ℕ → Bool → Type 0
-IsSpared b t true = WellFormed b Elsewhere → CountsSameVolume b t
-IsSpared b t false = WellFormed b Elsewhere × (CountsSameVolume b t → ⊥)
+IsSpared b t true = WellFormed b Elsewhere → IsSameVolume b t
+IsSpared b t false = WellFormed b Elsewhere × (IsSameVolume b t → ⊥)
 
 -- why that isn't told
 abbrev pub IsUnspared : Type 0 → List ℕ → List ℕ → Bar → Type 0
-IsUnspared tells b t bar.Memory = tells → NeedsMetadata b ⊎ ReadsTarget b t SameVolume
+IsUnspared tells b t bar.Memory = tells → NeedsMetadata b ⊎ NeedsMetadata t
 IsUnspared tells b t bar.Device = ⊤
 IsUnspared tells b t other = ⊥
 
 -- what bars the command by another use alone
 abbrev pub IsUseBar : Type 0 → Bool → List ℕ → List ℕ → Bar → Type 0
-IsUseBar tells over b t (bar.OtherUse found) = (over ≡ false) × (tells → HasUse t found × WellFormed b Elsewhere × (CountsSameVolume b t → ⊥))
-IsUseBar tells over b t bar.Memory = tells → NeedsMetadata b ⊎ ReadsTarget b t SameVolume
+IsUseBar tells over b t (bar.OtherUse found) = (over ≡ false) × (tells → HasUse t found × WellFormed b Elsewhere × (IsSameVolume b t → ⊥))
+IsUseBar tells over b t bar.Memory = tells → NeedsMetadata b ⊎ NeedsMetadata t
 IsUseBar tells over b t bar.Device = ⊤
 IsUseBar tells over b t other = ⊥
 
 abbrev pub IsUseClear : Bool → List ℕ → List ℕ → Type 0
-IsUseClear over b t = over ≡ false → WellFormed b Elsewhere → (CountsSameVolume b t → ⊥) → (found : Use) → HasUse t found → ⊥
+IsUseClear over b t = over ≡ false → WellFormed b Elsewhere → (IsSameVolume b t → ⊥) → (found : Use) → HasUse t found → ⊥
 
 -- and by a reencryption alone
 abbrev pub IsReencryptionBar : Type 0 → Bool → List ℕ → Bar → Type 0

@@ -29,7 +29,7 @@ use Rattle.luks_commands.specs.declared.inputs.InputFault.TheVariants.{Absent, U
 use Rattle.luks_commands.specs.declared.inputs.Reason.TheVariants as reason
 use Rattle.luks_commands.specs.Answer.{answer_status, current_status, IsWordless, open_fault_answer, unread_answer}
 use Rattle.luks_commands.specs.Exit.{exit_status}
-use Rattle.luks_commands.specs.Standing.{bar_answer, HasOther, IsBar}
+use Rattle.luks_commands.specs.Standing.{bar_answer}
 use Rattle.luks_commands.specs.declared.standing.Bar.{Bar}
 use Rattle.luks_commands.specs.declared.standing.Bar.TheVariants as bar
 use Rattle.luks_signatures.specs.declared.other_use.OtherUse.{OtherUse as Use}
@@ -57,7 +57,7 @@ use Rattle.luks_header_commands.specs.Tried.{no_header, none_open, one_opens, tr
 use Rattle.luks_header_commands.specs.Trying.{AnswersBy, AnswersRebuild, IsTriedAnswer, TriedBy}
 use Rattle.luks_header_commands.specs.Rebuilding.{given_of, copies_asked, IsAnswerOf, IsLuks1Answer, IsLuks2Answer, IsRebuildAnswer}
 use Rattle.luks_commands.specs.Beside.{IsSameFile}
-use Rattle.luks_header_commands.specs.Target.{AnswersHeader, IsOtherTarget, IsWithoutRandom, IsWithRandom, Pair, pair_of as header_pair}
+use Rattle.luks_header_commands.specs.Target.{AnswersHeader, IsWithoutRandom, IsWithRandom, Pair, pair_of as header_pair}
 use Rattle.luks_keeping.specs.ComparisonTexts.{is_current}
 use Rattle.luks_keeping.specs.declared.backup_fault.BackupFault.TheVariants as backing_up
 use Rattle.luks_keeping.specs.declared.comparison.Comparison.{Comparison}
@@ -125,12 +125,12 @@ wordless_ends Ends long fault memory is_long unread a (inr said) = unread_ends E
 
 -- what bars `format`, `convert` and `rebuild`
 barred_ends : (Ends : Answer → ℕ → Type 0) → ((found : Use) → Ends (Refused (refusal.OtherUse found)) 1) → Ends (Refused refusal.OtherVolume) 1 → Ends (Refused refusal.Reencrypting) 1 → Ends DeviceFault 4 → Ends NoMemory 4
-    → (tells : Type 0) (over : Bool) (Other : Type 0) (v : List ℕ) (b : Bar) → IsBar tells over Other v b → (a : Answer) → a ≡ bar_answer b → Ends a (own a)
-barred_ends Ends use_of volume reencrypting fault memory tells over Other v (bar.OtherUse found) is a same = subst (λ x. Ends x (own x)) (sym same) (use_of found)
-barred_ends Ends use_of volume reencrypting fault memory tells over Other v bar.OtherVolume is a same = subst (λ x. Ends x (own x)) (sym same) volume
-barred_ends Ends use_of volume reencrypting fault memory tells over Other v bar.Reencrypting is a same = subst (λ x. Ends x (own x)) (sym same) reencrypting
-barred_ends Ends use_of volume reencrypting fault memory tells over Other v bar.Memory is a same = subst (λ x. Ends x (own x)) (sym same) memory
-barred_ends Ends use_of volume reencrypting fault memory tells over Other v bar.Device is a same = subst (λ x. Ends x (own x)) (sym same) fault
+    → (b : Bar) (a : Answer) → a ≡ bar_answer b → Ends a (own a)
+barred_ends Ends use_of volume reencrypting fault memory (bar.OtherUse found) a same = subst (λ x. Ends x (own x)) (sym same) (use_of found)
+barred_ends Ends use_of volume reencrypting fault memory bar.OtherVolume a same = subst (λ x. Ends x (own x)) (sym same) volume
+barred_ends Ends use_of volume reencrypting fault memory bar.Reencrypting a same = subst (λ x. Ends x (own x)) (sym same) reencrypting
+barred_ends Ends use_of volume reencrypting fault memory bar.Memory a same = subst (λ x. Ends x (own x)) (sym same) memory
+barred_ends Ends use_of volume reencrypting fault memory bar.Device a same = subst (λ x. Ends x (own x)) (sym same) fault
 
 -- ---- `check`
 
@@ -404,7 +404,7 @@ pub format_ends : {D : Type 0} (tells : Type 0) (size : D → ℕ) (bytes : D �
     → AnswersFormat tells size bytes failed making HasWords HasKey is_long unread HasRandom old new a → EndsFormat a (own a)
 format_ends tells size bytes failed making HasWords HasKey is_long unread HasRandom (Ok old) (Ok new) a (inl said) = wordless_ends EndsFormat refl refl refl is_long unread a said.0
 format_ends tells size bytes failed making HasWords HasKey is_long unread HasRandom (Ok old) (Ok new) a (inr (inl held)) =
-    barred_ends EndsFormat (λ found. refl) refl refl refl refl tells making.over (HasOther None (bytes old)) (bytes old) held.bar held.barred a held.is
+    barred_ends EndsFormat (λ found. refl) refl refl refl refl held.bar a held.is
 format_ends tells size bytes failed making HasWords HasKey is_long unread HasRandom (Ok old) (Ok new) a (inr (inr said)) =
     format_there tells making said.key said.passphrase said.random (size old) (bytes old) (bytes new) (failed old) (failed new) a said.is
 format_ends tells size bytes failed making HasWords HasKey is_long unread HasRandom (Ok old) (Err fault) a said = absurd said
@@ -426,7 +426,7 @@ header_ends : {D : Type 0} (Ends : Answer → ℕ → Type 0) → ((found : Use)
     (says : List ℕ → Pair → Answer → Type 0) → ((random : List ℕ) (d : Pair) (a : Answer) → says random d a → Ends a (own a)) → (unread : InputFault → Type 0) (HasRandom : List ℕ → Type 0)
     (volume volume_new old new : Result D InputFault) (a : Answer) → AnswersHeader tells size bytes failed over says unread HasRandom volume volume_new old new a → Ends a (own a)
 header_ends Ends use_of other reencrypting fault memory tells size bytes failed over says each unread HasRandom (Ok volume) (Ok volume_new) (Ok old) (Ok new) a (inl held) =
-    barred_ends Ends use_of other reencrypting fault memory tells over (IsOtherTarget (bytes volume) (bytes old)) (bytes old) held.bar held.barred a held.is
+    barred_ends Ends use_of other reencrypting fault memory held.bar a held.is
 header_ends Ends use_of other reencrypting fault memory tells size bytes failed over says each unread HasRandom (Ok volume) (Ok volume_new) (Ok old) (Ok new) a (inr clear) =
     unbarred_ends Ends fault memory tells says each unread HasRandom (header_pair size bytes failed volume volume_new old new) a clear.is
 header_ends Ends use_of other reencrypting fault memory tells size bytes failed over says each unread HasRandom (Ok volume) (Ok volume_new) (Ok old) (Err f) a said = absurd said

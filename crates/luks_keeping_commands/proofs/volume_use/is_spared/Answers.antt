@@ -11,7 +11,7 @@ returns-in-Ok-counts_same_volume-clause-is g c = λ tells.
 pub returns-in-Err-clause-fault : goal.returns-in-Err-clause-fault
 returns-in-Err-clause-fault g c =
     unspared_by g.D.Device.tells (g.D.Device.bytes c.args.backup.now) (g.D.Device.bytes c.args.volume.now) c.in-Err.fault c.bar_of.result c.bar_of.ensures.same c.bar_of.ensures.kinds
-    (λ tells. c.in-Err.ensures.fault tells (g.D.Device.bytes c.args.backup.now) (c.in-Ok.ensures.read tells))
+    c.in-Err.ensures.fault
 
 pub returns-in-Err-Head-clause-is : goal.returns-in-Err-Head-clause-is
 returns-in-Err-Head-clause-is g c = λ tells.

@@ -1,5 +1,5 @@
 use Rattle.luks_keeping.specs.SameKeys.{HoldsDigests}
-use Rattle.luks_keeping.proofs.identity.identity_of.Given as goal
+use Rattle.luks_keeping.proofs.identity.digests_of.Given as goal
 
 -- the digests before this one are listed
 abbrev pub invariant-loop-n : goal.invariant-loop-n

@@ -1,0 +1,201 @@
+-- What the digests of segments say, of headers that were read, and whether two headers are of the same volume by them.
+use Rattle.std.proofs.Common.{◌≡◌, ◌≢◌, ◌↔◌, ℕ, ◌<◌, List, Bool, false, true, not, IsTrue, Option, Some, None, slice_index_or, refl, sym, ap, subst, ◌∙◌, arith, inl, inr}
+use Rattle.std.proofs.lemmas.Bool.{cases_lt, false≢true}
+use Rattle.serde_json.specs.Data.{Data as Value}
+use Rattle.luks_area.specs.Ranges.{part}
+use Rattle.luks1_header.specs.declared.fault.HeadFault.{HeadFault}
+use Rattle.luks2_header.proofs.ChoiceFacts.{choices_agree, uuid_sound}
+use Rattle.luks2_header.specs.Header2.{header_at, uuid_field}
+use Rattle.luks2_header.specs.Selection.{luks1, luks2, nothing, Choice}
+use Rattle.luks_rules.proofs.AreaFaults.{one_value}
+use Rattle.luks_rules.proofs.Deciding.{metadata_faultless}
+use Rattle.luks_rules.specs.Faults.{object_at}
+use Rattle.luks_rules.specs.declared.fault.MetaFault.{MetaFault}
+use Rattle.luks_rules.specs.declared.table.Section.TheVariants.{Digests}
+use Rattle.luks_meta.specs.Content.{content}
+use Rattle.luks_reading.specs.Header.{json_at, IsHeader, IsReadFaultAs, IsUnread}
+use Rattle.luks_reading.specs.KeyDigests.{IsFirstDigestOf}
+use Rattle.luks_reading.specs.declared.header.Header.{Header}
+use Rattle.luks_reading.specs.declared.header.Header.TheVariants.{Luks1, Luks2}
+use Rattle.luks_reading.specs.declared.read_fault.ReadFault.{ReadFault}
+use Rattle.luks_reading.specs.declared.read_fault.ReadFault.TheVariants as read
+use Rattle.luks_keeping.specs.Laid.{choice_of}
+use Rattle.luks_keeping.specs.SameKeys.{AgreeAt, AreOfOne, FindsRecord, HasNoRecord, Identifies, IsHeaderRecord, IsIdentity, told}
+use Rattle.luks_keeping.specs.SameVolume.{AgreeOn, DigestRecord, HasAnyHeader, HasNone, IsAcceptedAs, IsOtherVolume, IsRecord1, IsRecord2, IsRecordAs, IsSameRecord, IsSameVolume, IsSameVolumeAs, SameHash, SaysRecord}
+use Rattle.luks_keeping.specs.declared.identity.Identity.{Identity}
+use Rattle.luks_keeping.specs.declared.identity.KeyRecord.{KeyRecord}
+use Rattle.luks_keeping.proofs.KeyFacts.{some_same}
+use Rattle.luks_keeping.proofs.LaidFacts.{chosen_of}
+use Rattle.luks_keeping.proofs.OtherFacts.{header_some, uuid_of_header}
+
+-- ---- one record of a segment
+
+record AreEqual (d e : DigestRecord) : Type 0 where
+  pub hash : d.hash ≡ e.hash
+  pub iterations : d.iterations ≡ e.iterations
+  pub salt : d.salt ≡ e.salt
+  pub bytes : d.bytes ≡ e.bytes
+
+-- the least digest that is assigned to a segment is one
+first_one : (j : Value) (n k m : ℕ) → IsFirstDigestOf j n k → IsFirstDigestOf j n m → k ≡ m
+first_one j n k m x y = elim (cases_lt k m) [
+  | inl below ↦ absurd (y.first k below x.is)
+  | inr past ↦ elim (cases_lt m k) [
+    | inl under ↦ absurd (x.first m under y.is)
+    | inr over ↦ omega (arith, past, over)
+  ]
+]
+
+-- a digest says one thing
+one_said : (object : Value) (d e : DigestRecord) → SaysRecord object d → SaysRecord object e → AreEqual d e
+one_said object d e x y =
+    let name : x.name ≡ y.name = some_same x.name y.name (sym x.named ∙ y.named) in
+    record {
+      hash = x.hash ∙ ap (λ l. Some (part l 0 64)) name ∙ sym y.hash;
+      iterations = some_same d.iterations e.iterations (sym x.iterations ∙ y.iterations);
+      salt = some_same d.salt e.salt (sym x.salt ∙ y.salt);
+      bytes = some_same d.bytes e.bytes (sym x.bytes ∙ y.bytes);
+    }
+
+one_record : (h : Header) (n : ℕ) (d e : DigestRecord) → IsHeaderRecord h n d → IsHeaderRecord h n e → AreEqual d e
+one_record (Luks1 head) n d e x y = record {
+  hash = x.hash ∙ sym y.hash;
+  iterations = x.iterations ∙ sym y.iterations;
+  salt = x.salt ∙ sym y.salt;
+  bytes = x.bytes ∙ sym y.bytes;
+}
+one_record (Luks2 copy) n d e x y =
+    let j : Value = content copy.meta in
+    let same : x.assigned.number ≡ y.assigned.number = first_one j n x.assigned.number y.assigned.number x.assigned.first y.assigned.first in
+    let object : x.assigned.object ≡ y.assigned.object = some_same x.assigned.object y.assigned.object (sym x.assigned.is ∙ ap (object_at j Digests) same ∙ y.assigned.is) in
+    one_said y.assigned.object d e (subst (λ (o : Value). SaysRecord o d) object x.assigned.says) y.assigned.says
+
+-- ---- a header that was read has the records of its volume
+
+record_of : (b : List ℕ) (h : Header) → IsHeader b h → (n : ℕ) (d : DigestRecord) → IsHeaderRecord h n d → IsRecordAs b (choice_of h) n d
+record_of b (Luks1 head) is n d x = subst (λ (l : List ℕ). IsRecord1 l n d) is.1 x
+record_of b (Luks2 copy) is n d x = record { value = content copy.meta; metadata = is.metadata; is = x }
+
+record_in : (b : List ℕ) (h : Header) → IsHeader b h → (n : ℕ) (d : DigestRecord) → IsRecordAs b (choice_of h) n d → IsHeaderRecord h n d
+record_in b (Luks1 head) is n d x = subst (λ (l : List ℕ). IsRecord1 l n d) (sym is.1) x
+record_in b (Luks2 copy) is n d x =
+    subst (λ (j : Value). IsRecord2 j n d) (one_value (json_at b copy.header.hdr_offset) x.value (content copy.meta) x.metadata.json is.metadata.json) x.is
+
+accepted_of : (b : List ℕ) (h : Header) → IsHeader b h → IsAcceptedAs b (choice_of h)
+accepted_of b (Luks1 head) is = tt
+accepted_of b (Luks2 copy) is = record { uuid = is.uuid; value = content copy.meta; metadata = is.metadata }
+
+-- ---- two headers
+
+same_as : (d x y e : DigestRecord) → AreEqual d x → IsSameRecord x y → AreEqual y e → IsSameRecord d e
+same_as d x y e p s q = record {
+  hash = subst (λ (h : Option (List ℕ)). SameHash h e.hash) (sym p.hash) (subst (λ (h : Option (List ℕ)). SameHash x.hash h) q.hash s.hash);
+  iterations = p.iterations ∙ s.iterations ∙ q.iterations;
+  salt = p.salt ∙ s.salt ∙ q.salt;
+  bytes = p.bytes ∙ s.bytes ∙ q.bytes;
+}
+
+module _ (b t : List ℕ) (h k : Header) (is : IsHeader b h) (stands : IsHeader t k) (n : ℕ) where
+  agree_to : (o p : Option KeyRecord) → FindsRecord (IsHeaderRecord h n) o → FindsRecord (IsHeaderRecord k n) p → AgreeAt o p
+      → AgreeOn (IsRecordAs b (choice_of h) n) (IsRecordAs t (choice_of k) n)
+  agree_to None None x y same = inl (λ d r. x d (record_in b h is n d r), λ d r. y d (record_in t k stands n d r))
+  agree_to None (Some e) x y same = absurd same
+  agree_to (Some d) None x y same = absurd same
+  agree_to (Some d) (Some e) x y same =
+      inr (record { own = told d; other = told e; is_own = record_of b h is n (told d) x; is_other = record_of t k stands n (told e) y; same = same })
+
+  agree_from : (o p : Option KeyRecord) → FindsRecord (IsHeaderRecord h n) o → FindsRecord (IsHeaderRecord k n) p
+      → AgreeOn (IsRecordAs b (choice_of h) n) (IsRecordAs t (choice_of k) n) → AgreeAt o p
+  agree_from None None x y a = tt
+  agree_from None (Some e) x y (inl none) = absurd (none.1 (told e) (record_of t k stands n (told e) y))
+  agree_from None (Some e) x y (inr s) = absurd (x s.own (record_in b h is n s.own s.is_own))
+  agree_from (Some d) None x y (inl none) = absurd (none.0 (told d) (record_of b h is n (told d) x))
+  agree_from (Some d) None x y (inr s) = absurd (y s.other (record_in t k stands n s.other s.is_other))
+  agree_from (Some d) (Some e) x y (inl none) = absurd (none.0 (told d) (record_of b h is n (told d) x))
+  agree_from (Some d) (Some e) x y (inr s) =
+      same_as (told d) s.own s.other (told e) (one_record h n (told d) s.own x (record_in b h is n s.own s.is_own)) s.same
+      (one_record k n s.other (told e) (record_in t k stands n s.other s.is_other) y)
+
+-- no segment of the header has one
+module _ (b : List ℕ) (h : Header) (is : IsHeader b h) (here : Identity) (own : IsIdentity h here) where
+  none_of : HasNoRecord here → (n : ℕ) → n < 32 → HasNone (IsRecordAs b (choice_of h) n)
+  none_of none n low = λ d r.
+      (subst (λ (o : Option KeyRecord). FindsRecord (IsHeaderRecord h n) o) (none.none n low) (own.records.each n low)) d (record_in b h is n d r)
+
+  gone : (n : ℕ) (o : Option KeyRecord) → FindsRecord (IsHeaderRecord h n) o → HasNone (IsRecordAs b (choice_of h) n) → o ≡ None
+  gone n None found none = refl
+  gone n (Some d) found none = absurd (none (told d) (record_of b h is n (told d) found))
+
+  none_in : ((n : ℕ) → n < 32 → HasNone (IsRecordAs b (choice_of h) n)) → HasNoRecord here
+  none_in none = record { none = λ n low. gone n (slice_index_or here.records n None) (own.records.each n low) (none n low) }
+
+module _ (b t : List ℕ) (h k : Header) (here there : Identity) (own : IsIdentity h here) (others : IsIdentity k there) (is : IsHeader b h) (stands : IsHeader t k) where
+  same_volume : AreOfOne here there → IsSameVolume b t
+  same_volume x = record {
+    choice = choice_of h;
+    chosen = chosen_of b h is;
+    other = choice_of k;
+    counts = chosen_of t k stands;
+    same = record {
+      here = accepted_of b h is;
+      there = accepted_of t k stands;
+      segments = λ n low. agree_to b t h k is stands n (slice_index_or here.records n None) (slice_index_or there.records n None)
+          (own.records.each n low) (others.records.each n low) (x.records.each n low);
+      uuid = λ none. sym (uuid_of_header t k stands) ∙ sym others.uuid ∙ x.uuid (none_in b h is here own none) ∙ own.uuid ∙ uuid_of_header b h is;
+    };
+  }
+
+  by_choices : IsSameVolume b t → IsSameVolumeAs b (choice_of h) t (choice_of k)
+  by_choices x =
+      subst (λ (c : Choice). IsSameVolumeAs b c t (choice_of k)) (choices_agree b x.choice (choice_of h) x.chosen (chosen_of b h is))
+      (subst (λ (c : Choice). IsSameVolumeAs b x.choice t c) (choices_agree t x.other (choice_of k) x.counts (chosen_of t k stands)) x.same)
+
+  of_one : IsSameVolume b t → AreOfOne here there
+  of_one x =
+      let same : IsSameVolumeAs b (choice_of h) t (choice_of k) = by_choices x in
+      record {
+        records = record {
+          each = λ n low. agree_from b t h k is stands n (slice_index_or here.records n None) (slice_index_or there.records n None)
+              (own.records.each n low) (others.records.each n low) (same.segments n low);
+        };
+        uuid = λ none. others.uuid ∙ uuid_of_header t k stands ∙ same.uuid (none_of b h is here own none) ∙ sym (uuid_of_header b h is) ∙ sym own.uuid;
+      }
+
+  -- two headers that were read are of the same volume where their identities are of one
+  pub same_by : (one : Bool) → (IsTrue one ↔ AreOfOne here there) → IsTrue one ↔ IsSameVolume b t
+  same_by one e = (λ q. same_volume (e.0 q), λ x. e.1 (of_one x))
+
+  any_header : HasAnyHeader t
+  any_header = record { choice = choice_of k; counts = chosen_of t k stands; some = header_some k }
+
+  -- and of two otherwise
+  pub other_by : (one : Bool) → (IsTrue one ↔ AreOfOne here there) → IsTrue (not one) ↔ IsOtherVolume b t
+  other_by true e = (λ q. absurd (false≢true q), λ x. absurd (x.differs (same_volume (e.0 refl))))
+  other_by false e = (λ q. record { header = any_header; differs = λ x. false≢true (e.1 (of_one x)) }, λ x. refl)
+
+-- ---- a header that isn't read is of no volume
+
+not_accepted : (t : List ℕ) (c : Choice) (f : ReadFault) → IsReadFaultAs t c f → IsAcceptedAs t c → ⊥
+not_accepted t luks1 f bad a = bad
+not_accepted t (luks2 o copies) (read.Head f) bad a = uuid_sound (uuid_field (header_at t o)) a.uuid f bad
+not_accepted t (luks2 o copies) (read.Meta f) bad a = (metadata_faultless (json_at t o)).1 (a.value, a.metadata) f bad
+not_accepted t (luks2 o copies) read.Device bad a = bad
+not_accepted t (luks2 o copies) read.Memory bad a = bad
+not_accepted t nothing f bad a = a
+
+pub head_unsame : (b t : List ℕ) (f : HeadFault) → IsUnread t (read.Head f) → IsTrue false ↔ IsSameVolume b t
+head_unsame b t f x = (λ q. absurd (false≢true q), λ s. absurd (
+    not_accepted t s.other (read.Head f) (subst (λ (c : Choice). IsReadFaultAs t c (read.Head f)) (choices_agree t x.0.choice s.other x.0.chosen s.counts) x.0.fault) s.same.there))
+
+pub meta_unsame : (b t : List ℕ) (f : MetaFault) → IsUnread t (read.Meta f) → IsTrue false ↔ IsSameVolume b t
+meta_unsame b t f x = (λ q. absurd (false≢true q), λ s. absurd (
+    not_accepted t s.other (read.Meta f) (subst (λ (c : Choice). IsReadFaultAs t c (read.Meta f)) (choices_agree t x.0.choice s.other x.0.chosen s.counts) x.0.fault) s.same.there))
+
+-- nor is one that isn't read the other's
+pub head_unlike : (b t : List ℕ) (f : HeadFault) → IsUnread b (read.Head f) → IsSameVolume b t → ⊥
+head_unlike b t f x = λ s.
+    not_accepted b s.choice (read.Head f) (subst (λ (c : Choice). IsReadFaultAs b c (read.Head f)) (choices_agree b x.0.choice s.choice x.0.chosen s.chosen) x.0.fault) s.same.here
+
+pub meta_unlike : (b t : List ℕ) (f : MetaFault) → IsUnread b (read.Meta f) → IsSameVolume b t → ⊥
+meta_unlike b t f x = λ s.
+    not_accepted b s.choice (read.Meta f) (subst (λ (c : Choice). IsReadFaultAs b c (read.Meta f)) (choices_agree b x.0.choice s.choice x.0.chosen s.chosen) x.0.fault) s.same.here
