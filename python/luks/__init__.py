@@ -578,27 +578,33 @@ class Volume:
         """
         if not over_reencryption and self._is_reencrypting():
             raise Fault(Number.REENCRYPTING)
-        if not force and not self._is_of(backup):
+        if not force and not self._is_of(backup, self._is_detached):
             self._refuse_use(self.signature())
         over_any = over_any or force
         self._done(LIBRARY.luks_restore(backup._fd, *backup._window, self._fd, *self._window, self._is_detached, over_any))
 
     def compare(self, backup: Volume) -> Comparison:
-        """How a backup stands to this volume, keyslot by keyslot. Nothing is written."""
+        """How a backup stands to this volume, keyslot by keyslot. Nothing is written.
+
+        Where the volume key is another it is refused by OtherVolume.
+        """
+        return self._compared(backup, self._is_detached)
+
+    def _compared(self, backup: Volume, is_detached: bool) -> Comparison:
         keyslots, is_same_key = ctypes.create_string_buffer(KEYSLOTS), ctypes.c_bool(False)
-        self._done(LIBRARY.luks_compare(backup._fd, *backup._window, self._fd, *self._window, self._is_detached, keyslots, ctypes.byref(is_same_key)))
+        self._done(LIBRARY.luks_compare(backup._fd, *backup._window, self._fd, *self._window, is_detached, keyslots, ctypes.byref(is_same_key)))
         return Comparison(is_same_key.value, {n: KEEPINGS[state] for n, state in enumerate(keyslots.raw) if state})
 
     def convert(self, target: Volume, *, force: bool = False) -> None:
         """Writes to the start of the target a LUKS2 header of this LUKS1 volume, by which each enabled keyslot opens as before.
 
-        The target is another file, of 16 MiB or more. Where an accepted LUKS header of another uuid stands there it is refused by
+        The target is another file, of 16 MiB or more. Where an accepted LUKS header of another volume stands there it is refused by
         OtherVolume, in the midst of a reencryption by Reencrypting, and where its `signature` shows another use by OtherUse, unless it is to
         `force` that. This volume is only read. Where it
         `is_detached`, its data lies elsewhere.
         """
         if not force:
-            target._refuse_standing(self._uuid())
+            target._refuse_standing(self)
         self._done(LIBRARY.luks_convert(self._fd, *self._window, self._is_detached, target._fd, *target._window, None, 0))
 
     def rebuild(self, target: Volume, uuid: Optional[str] = None, *, second: bool = False, size: int = 0, cipher: Optional[str] = None,
@@ -614,7 +620,7 @@ class Volume:
         if (second or size) and fields != (None,) * 4:
             raise ValueError("second and size are of LUKS2, cipher, hash, key_bytes and payload of LUKS1")
         if not force:
-            target._refuse_standing(self._uuid())
+            target._refuse_standing(self)
         to, text = (target._fd, *target._window), _text(uuid)
         if second or size:
             answer = LIBRARY.luks_rebuild2(self._fd, *self._window, second, size, text, *to, None, 0)
@@ -631,32 +637,30 @@ class Volume:
         if use is not None:
             raise Fault(Number.OTHER_USE, use)
 
-    def _uuid(self, needs_check: bool = False) -> Optional[str]:
-        """The uuid of the header that counts, where it can be shown, or where it is to be accepted too."""
-        try:
-            if needs_check:
-                self.check(is_detached=True)
-            return str(self.show()["uuid"])
-        except Fault as fault:
-            if fault.number in (Number.MEMORY, Number.DEVICE):
-                raise
-            return None
-
-    def _refuse_standing(self, uuid: Optional[str]) -> None:
-        """Refuses to write over an accepted LUKS header of another uuid, over a reencryption, and over another use of the disk."""
-        standing = self._uuid(needs_check=True)
-        if standing is not None and standing != uuid:
+    def _refuse_standing(self, source: Optional[Volume]) -> None:
+        """Refuses to write over an accepted LUKS header of another volume than the source, over a reencryption, and over another use."""
+        if self._is_accepted() and (source is None or not self._is_of(source, is_detached=True)):
             raise Fault(Number.OTHER_VOLUME)
         if self._is_reencrypting():
             raise Fault(Number.REENCRYPTING)
         self._refuse_use(self.signature())
 
-    def _is_of(self, backup: Volume) -> bool:
-        """Whether an accepted header of the backup's volume stands here."""
+    def _is_accepted(self) -> bool:
+        """Whether a header stands here that is accepted, at least as a detached one."""
         try:
-            self.compare(backup)
+            self.check(is_detached=True)
         except Fault as fault:
             if fault.number in (Number.MEMORY, Number.DEVICE):
+                raise
+            return False
+        return True
+
+    def _is_of(self, backup: Volume, is_detached: bool) -> bool:
+        """Whether an accepted header of the backup's volume stands here."""
+        try:
+            self._compared(backup, is_detached)
+        except Fault as fault:
+            if fault.number in (Number.MEMORY, Number.DEVICE, Number.SAME_FILE):
                 raise
             return False
         return True

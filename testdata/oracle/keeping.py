@@ -81,21 +81,34 @@ def fits(backup, total, detached):
 
 
 def marks(volume):
-    """The field of the uuid and the digests of the header that counts, or none."""
-    try:
-        chosen = reader.select(volume)
-    except Fault:
-        return None
+    """The field of the uuid of the header that counts, and what the digest of each crypt segment says: hash, iterations, salt and bytes. The hash of LUKS1
+    is that of the whole header, and no part of it."""
+    chosen = reader.select(volume)
     if chosen == 1:
-        return volume[168:208], {(volume[132:164], volume[112:132])}
+        return volume[168:208], {0: (None, int.from_bytes(volume[164:168], "big"), volume[132:164], volume[112:132])}
     copy, _ = chosen
-    try:
-        digests = reader.metadata(copy)["digests"].values()
-    except Fault:
-        digests = []
-    return copy["uuid"], {(base64.b64decode(d["salt"]), base64.b64decode(d["digest"])) for d in digests}
+    reader.checked_uuid(copy["uuid"])
+    value = reader.metadata(copy)
+    segments = {n: next(d for _, d in reader.by_number(value["digests"]) if str(n) in d["segments"])
+                for n, segment in reader.by_number(value["segments"]) if segment["type"] == "crypt"}
+    return copy["uuid"], {n: (d["hash"], d["iterations"], base64.b64decode(d["salt"]), base64.b64decode(d["digest"])) for n, d in segments.items()}
 
 
 def is_other(backup, target):
-    mine, theirs = marks(backup), marks(target)
-    return theirs is not None and mine[0] != theirs[0] and not mine[1] & theirs[1]
+    """Whether a header counts on the target that isn't accepted, or isn't of the backup's volume."""
+    try:
+        reader.select(target)
+    except Fault:
+        return False
+    try:
+        (uuid, mine), (other, theirs) = marks(backup), marks(target)
+    except Fault:
+        return True
+    if mine.keys() != theirs.keys():
+        return True
+    return any(is_unlike(mine[n], theirs[n]) for n in mine) if mine else uuid != other
+
+
+def is_unlike(mine, theirs):
+    """Whether what two digests say differs; hashes are compared where both name one."""
+    return mine[1:] != theirs[1:] or None not in (mine[0], theirs[0]) and mine[0] != theirs[0]

@@ -237,9 +237,11 @@ pub(crate) fn place(fault: Fault) -> &'static str {
        of it"
         }
         Fault::OtherVolume => {
-            "restore and compare: another uuid, and another digest of the volume key;
-       format: any header that check --detached accepts; convert and rebuild:
-       one of TARGET that has another uuid than SOURCE"
+            "restore and compare: the volume key is another, since the digest of a
+       segment isn't the same in both headers, whatever the uuids say; or check
+       refuses the header on VOLUME, so that it can't be compared; format: any
+       header that check --detached accepts; convert and rebuild: one of TARGET
+       that isn't of SOURCE's volume"
         }
         Fault::OtherUse => {
             "OtherUse(NAME), of add, change, remove, erase, repair, label, uuid,
@@ -566,8 +568,10 @@ pub(crate) fn next(fault: Fault) -> &'static str {
        say --detached"
         }
         Fault::OtherVolume => {
-            "look for the right device, and for the backup of this volume; if the
-       header that stands there is the wrong one, say --over, of restore --other"
+            "look for the right device, and for a backup of this volume as it is now:
+       one from before a reencryption has the old key, which reads none of the
+       data; if the header that stands there is the wrong one, say --over, of
+       restore --other"
         }
         Fault::OtherUse => {
             "is it the right device? If the other use counts, leave it: luks open and

@@ -6,7 +6,7 @@ use Rattle.luks_area.specs.Ranges.{part}
 use Rattle.luks1_header.specs.declared.fault.HeadFault.{HeadFault}
 use Rattle.luks2_header.proofs.ChoiceFacts.{choices_agree, uuid_sound}
 use Rattle.luks2_header.specs.Header2.{header_at, uuid_field}
-use Rattle.luks2_header.specs.Selection.{luks1, luks2, nothing, Choice}
+use Rattle.luks2_header.specs.Selection.{luks1, luks2, nothing, Choice, Chosen}
 use Rattle.luks_rules.proofs.AreaFaults.{one_value}
 use Rattle.luks_rules.proofs.Deciding.{metadata_faultless}
 use Rattle.luks_rules.specs.Faults.{object_at}
@@ -19,11 +19,13 @@ use Rattle.luks_reading.specs.declared.header.Header.{Header}
 use Rattle.luks_reading.specs.declared.header.Header.TheVariants.{Luks1, Luks2}
 use Rattle.luks_reading.specs.declared.read_fault.ReadFault.{ReadFault}
 use Rattle.luks_reading.specs.declared.read_fault.ReadFault.TheVariants as read
+use Rattle.luks_keeping.specs.Kept.{HasHeader}
 use Rattle.luks_keeping.specs.Laid.{choice_of}
 use Rattle.luks_keeping.specs.SameKeys.{AgreeAt, AreOfOne, FindsRecord, HasNoRecord, Identifies, IsHeaderRecord, IsIdentity, told}
-use Rattle.luks_keeping.specs.SameVolume.{AgreeOn, DigestRecord, HasAnyHeader, HasNone, IsAcceptedAs, IsOtherVolume, IsRecord1, IsRecord2, IsRecordAs, IsSameRecord, IsSameVolume, IsSameVolumeAs, SameHash, SaysRecord}
+use Rattle.luks_keeping.specs.SameVolume.{uuid_bytes, AgreeOn, DigestRecord, HasAnyHeader, HasNone, IsAccepted2, IsAcceptedAs, IsOtherVolume, IsRecord1, IsRecord2, IsRecordAs, IsRecordIn, IsSameRecord, IsSameVolume, IsSameVolumeAs, SameHash, SaysRecord}
 use Rattle.luks_keeping.specs.declared.identity.Identity.{Identity}
 use Rattle.luks_keeping.specs.declared.identity.KeyRecord.{KeyRecord}
+use Rattle.luks_keeping.proofs.KeptFacts.{fields_same, header_same, json_same}
 use Rattle.luks_keeping.proofs.KeyFacts.{some_same}
 use Rattle.luks_keeping.proofs.LaidFacts.{chosen_of}
 use Rattle.luks_keeping.proofs.OtherFacts.{header_some, uuid_of_header}
@@ -199,3 +201,79 @@ head_unlike b t f x = λ s.
 pub meta_unlike : (b t : List ℕ) (f : MetaFault) → IsUnread b (read.Meta f) → IsSameVolume b t → ⊥
 meta_unlike b t f x = λ s.
     not_accepted b s.choice (read.Meta f) (subst (λ (c : Choice). IsReadFaultAs b c (read.Meta f)) (choices_agree b x.0.choice s.choice x.0.chosen s.chosen) x.0.fault) s.same.here
+
+-- ---- the other way round, and where a header was put
+
+same_hash : (h k : Option (List ℕ)) → SameHash h k → SameHash k h
+same_hash None None x = tt
+same_hash None (Some k) x = tt
+same_hash (Some h) None x = tt
+same_hash (Some h) (Some k) x = sym x
+
+agree_back : (here there : DigestRecord → Type 0) → AgreeOn here there → AgreeOn there here
+agree_back here there (inl none) = inl (none.1, none.0)
+agree_back here there (inr s) = inr (record {
+  own = s.other;
+  other = s.own;
+  is_own = s.is_other;
+  is_other = s.is_own;
+  same = record { hash = same_hash s.own.hash s.other.hash s.same.hash; iterations = sym s.same.iterations; salt = sym s.same.salt; bytes = sym s.same.bytes };
+})
+
+none_too : (here there : DigestRecord → Type 0) → AgreeOn here there → HasNone there → HasNone here
+none_too here there (inl none) x = none.0
+none_too here there (inr s) x = absurd (x s.other s.is_other)
+
+back : (b t : List ℕ) (c d : Choice) → IsSameVolumeAs b c t d → IsSameVolumeAs t d b c
+back b t c d x = record {
+  here = x.there;
+  there = x.here;
+  segments = λ n low. agree_back (IsRecordAs b c n) (IsRecordAs t d n) (x.segments n low);
+  uuid = λ none. sym (x.uuid (λ n low. none_too (IsRecordAs b c n) (IsRecordAs t d n) (x.segments n low) (none n low)));
+}
+
+-- `w` has the header of `b`
+module _ (b w : List ℕ) where
+  accepted_there : (c : Choice) → Chosen b c → HasHeader b c w → IsAcceptedAs b c → IsAcceptedAs w c
+  accepted_there luks1 chosen h x = x
+  accepted_there (luks2 o copies) chosen h x =
+      subst (λ (l : List ℕ). IsAccepted2 l (json_at w o)) (sym (header_same b w o copies chosen.1 h))
+      (subst (λ (j : List ℕ). IsAccepted2 (header_at b o) j) (sym (json_same b w o copies chosen.1 h)) x)
+  accepted_there nothing chosen h x = x
+
+  record_there : (c : Choice) → Chosen b c → HasHeader b c w → (n : ℕ) (d : DigestRecord) → IsRecordAs b c n d → IsRecordAs w c n d
+  record_there luks1 chosen h n d x = subst (λ (l : List ℕ). IsRecord1 l n d) (sym (fields_same b w h)) x
+  record_there (luks2 o copies) chosen h n d x = subst (λ (j : List ℕ). IsRecordIn j n d) (sym (json_same b w o copies chosen.1 h)) x
+  record_there nothing chosen h n d x = x
+
+  record_back : (c : Choice) → Chosen b c → HasHeader b c w → (n : ℕ) (d : DigestRecord) → IsRecordAs w c n d → IsRecordAs b c n d
+  record_back luks1 chosen h n d x = subst (λ (l : List ℕ). IsRecord1 l n d) (fields_same b w h) x
+  record_back (luks2 o copies) chosen h n d x = subst (λ (j : List ℕ). IsRecordIn j n d) (json_same b w o copies chosen.1 h) x
+  record_back nothing chosen h n d x = x
+
+  uuid_there : (c : Choice) → Chosen b c → HasHeader b c w → uuid_bytes w c ≡ uuid_bytes b c
+  uuid_there luks1 chosen h = ap (λ l. part l 168 40) (fields_same b w h)
+  uuid_there (luks2 o copies) chosen h = ap uuid_field (header_same b w o copies chosen.1 h)
+  uuid_there nothing chosen h = refl
+
+  agree_there : (c : Choice) → Chosen b c → HasHeader b c w → (own : DigestRecord → Type 0) (n : ℕ) → AgreeOn own (IsRecordAs b c n) → AgreeOn own (IsRecordAs w c n)
+  agree_there c chosen h own n (inl none) = inl (none.0, λ d r. none.1 d (record_back c chosen h n d r))
+  agree_there c chosen h own n (inr s) =
+      inr (record { own = s.own; other = s.other; is_own = s.is_own; is_other = record_there c chosen h n s.other s.is_other; same = s.same })
+
+  -- what was of the same volume as `b` is of that of `w`
+  pub same_there : (t : List ℕ) (c : Choice) → Chosen b c → HasHeader b c w → Chosen w c → IsSameVolume b t → IsSameVolume t w
+  same_there t c chosen h counts x =
+      let same : IsSameVolumeAs t x.other b c = back b t c x.other (subst (λ (d : Choice). IsSameVolumeAs b d t x.other) (choices_agree b x.choice c x.chosen chosen) x.same) in
+      record {
+        choice = x.other;
+        chosen = x.counts;
+        other = c;
+        counts = counts;
+        same = record {
+          here = same.here;
+          there = accepted_there c chosen h same.there;
+          segments = λ n low. agree_there c chosen h (IsRecordAs t x.other n) n (same.segments n low);
+          uuid = λ none. uuid_there c chosen h ∙ same.uuid none;
+        };
+      }

@@ -27,13 +27,15 @@ use Rattle.luks_reading.specs.declared.report.Data.{Data}
 use Rattle.luks_reading.specs.declared.report.Data.TheVariants.{Elsewhere, Here}
 use Rattle.luks_keeping.proofs.LaidFacts.{chosen_of, has_kept, whole_is}
 use Rattle.luks_keeping.proofs.TurnFacts.{older_gone}
-use Rattle.luks_keeping.proofs.VolumeFacts.{answer_here, answer_there, on_chosen, well_formed_there}
+use Rattle.luks_keeping.proofs.RecordFacts.{same_there}
+use Rattle.luks_keeping.proofs.VolumeFacts.{answer_here, answer_there, header_counts, on_chosen, well_formed_there}
 use Rattle.luks_keeping.specs.Judged.{IsFormedOn, IsFormedOnAs}
 use Rattle.luks_keeping.specs.Kept.{HasKept, IsKept}
 use Rattle.luks_keeping.specs.Laid.{choice_of, IsLaidOut}
 use Rattle.luks_keeping.specs.Backup.{IsLuks2Size}
 use Rattle.luks_keeping.specs.Places.{ArePlacesGone, HoldsAll, IsOfWhole}
 use Rattle.luks_keeping.specs.Restored.{AreGone, HasAreaOnAs, IsFrontAs, IsOfChanged, IsOfOlder, IsOfRestored, IsRestored, IsSegmentOn}
+use Rattle.luks_keeping.specs.SameVolume.{IsSameVolume}
 use Rattle.luks_keeping.specs.SecondPlaces.{IsOfCopies}
 use Rattle.luks_keeping.specs.declared.places.Places.{Places}
 
@@ -191,3 +193,9 @@ module _ (b : List ℕ) (payload : Data) (header : Header) (places : Places) (t 
     answer_there b w Elsewhere payload (choice_of header) (chosen_of b header x.is) x.kept x.well x.fits allowed n p a,
     answer_here b w Elsewhere payload (choice_of header) (chosen_of b header x.is) x.kept x.well x.fits allowed n p a,
   )
+
+  -- what was of the backup's volume is of that of the header that was put there
+  pub own_volume : IsSameVolume b t → IsSameVolume t w
+  own_volume same =
+      let chosen : Chosen b (choice_of header) = chosen_of b header x.is in
+      same_there b w t (choice_of header) chosen x.kept.header (header_counts b w Elsewhere payload (choice_of header) chosen x.kept.header x.well x.fits) same

@@ -15,6 +15,7 @@ ghost use Rattle.luks_reading.specs.declared.report.Data.TheVariants.{Elsewhere}
 ghost use Rattle.luks_keeping.specs.Judged.{HasFields, IsAcceptedOf, IsFormedOn};
 ghost use Rattle.luks_keeping.specs.OtherHeaders.{IsUnfit};
 ghost use Rattle.luks_keeping.specs.RestoreFaults.{CanRestore, IsAnsweredRestore, IsRestoreFault, is_restore_failure};
+ghost use Rattle.luks_keeping.specs.SameVolume.{HasAnyHeader, IsSameVolume};
 ghost use Rattle.luks_keeping.specs.Restored.{IsOfRestored, IsRestored, IsSegmentOn, RestoresInTurn};
 ghost use Rattle.luks_keeping.specs.declared.restore_fault.RestoreFault.{RestoreFault as TheFault};
 
@@ -78,6 +79,11 @@ pub fn restore<B: Device, T: Device>(
     ensures order { B.tells → T.tells → (c : Choice) → Chosen (B.bytes backup.old) c
         → RestoresInTurn (B.bytes backup.old) payload c (T.bytes target.old) (T.bytes target.new) }
 
+    // Unless any volume may be written over: the header that counted there was of the same volume as the one that counts
+    // now, so that the digest of each of its segments is as it was.
+    ensures own { B.tells → T.tells → over ≡ Over.SameVolume → HasAnyHeader (T.bytes target.old)
+        → OnOk result (IsSameVolume (T.bytes target.old) (T.bytes target.new)) }
+
     // The volume that was made: each keyslot answers as the backup's.
     ensures restored { B.tells → T.tells → OnOk result
         (IsRestored (B.bytes backup.old) payload (T.bytes target.old) (T.bytes target.new)) }
@@ -137,6 +143,11 @@ pub fn restore_header<B: Device, T: Device>(
         → part (T.bytes target.new) a.start a.len ≡ part (T.bytes target.old) a.start a.len }
     ensures order { B.tells → T.tells → (c : Choice) → Chosen (B.bytes backup.old) c
         → RestoresInTurn (B.bytes backup.old) payload c (T.bytes target.old) (T.bytes target.new) }
+
+    // Unless any volume may be written over: the header that counted there was of the same volume as the one that counts
+    // now, so that the digest of each of its segments is as it was.
+    ensures own { B.tells → T.tells → over ≡ Over.SameVolume → HasAnyHeader (T.bytes target.old)
+        → OnOk result (IsSameVolume (T.bytes target.old) (T.bytes target.new)) }
 
     // The volume that was made: each keyslot answers as the backup's.
     ensures restored { B.tells → T.tells → OnOk result

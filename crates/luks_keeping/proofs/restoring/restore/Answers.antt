@@ -104,3 +104,6 @@ returns-clause-answers g c = λ source tells.
     let b : List ℕ = g.B.Device.bytes c.args.backup.now in
     let same : g.B.Device.bytes c.accepted_header.new.device ≡ b = c.in_ok-header.ensures.unchanged.same source in
     subst (λ (l : List ℕ). OnOk c.restore_header.result ((allowed : Allowed) (n : ℕ) (p : List ℕ) (a : Opened) → AnswerWithin allowed l n p a ↔ AnswerWithin allowed (g.T.Device.bytes c.restore_header.new.target) n p a)) same (c.restore_header.ensures.answers source tells)
+
+pub returns-clause-own : goal.returns-clause-own
+returns-clause-own g c = λ source tells may any. c.restore_header.ensures.own source tells may any

@@ -11,7 +11,7 @@ use Rattle.luks_keeping.specs.Restored.{IsFrontAs, IsSegmentOn}
 use Rattle.luks_keeping.specs.OtherHeaders.{IsUnfit}
 use Rattle.luks_keeping.specs.RestoreFaults.{is_restore_failure}
 use Rattle.luks_keeping.proofs.LaidFacts.{apart, inside, lead_below}
-use Rattle.luks_keeping.proofs.RestoreFacts.{answers_alike, changed_rest, is_restored, of_restored, segment_stays, well_formed, written_over}
+use Rattle.luks_keeping.proofs.RestoreFacts.{answers_alike, changed_rest, is_restored, of_restored, own_volume, segment_stays, well_formed, written_over}
 use Rattle.luks_keeping.proofs.RestoreFaultFacts.{answered_other, answered_unfit, can_fit, counts_second, two_failures}
 use Rattle.luks_keeping.proofs.SoundFacts.{faultless_on}
 use Rattle.luks_keeping.proofs.TurnFacts.{turn_over}
@@ -230,3 +230,18 @@ returns-clause-answers g c = λ source tells.
     let over = written_over b c.args.payload c.args.header is c.outline_of-outline.result.places c.outline_of-outline.ensures.laid ((c.requires.of source).1) _ t _ w c.len.result c.payload_start-limit.result front refl
     (c.in_ok-judge_other.ensures.unchanged.same tells) long (c.in_ok-judge_fit.ensures.formed b is) (c.write_over.ensures.rest tells) (c.in_ok-write_over.ensures.gone tells) (c.in_ok-write_over.ensures.copied source tells) (c.in_ok-write_over.ensures.lead tells) in
     answers_alike b c.args.payload c.args.header c.outline_of-outline.result.places t w over
+
+pub returns-clause-own : goal.returns-clause-own
+returns-clause-own g c = λ source tells may any.
+    let b : List ℕ = g.B.Device.bytes c.args.backup.now in
+    let t : List ℕ = g.T.Device.bytes c.args.target.now in
+    let is = (c.requires.of source).0 in
+    let front : IsFrontAs b c.args.payload (length t) (choice_of c.args.header) c.payload_start-limit.result =
+    subst (λ (n : ℕ). IsFrontAs b c.args.payload n (choice_of c.args.header) c.payload_start-limit.result)
+    (c.len-2.ensures ∙ sym (g.met.T.Device.sized c.args.target.now tells)) (c.payload_start-limit.ensures.start b is) in
+    let w : List ℕ = g.T.Device.bytes c.write_over.new.target in
+    let long : c.len.result ≡ length w = c.len.ensures ∙ sym c.in_ok-judge_other.ensures.unchanged.size ∙ sym c.write_over.ensures.size ∙ sym (g.met.T.Device.sized c.write_over.new.target tells) in
+    let over = written_over b c.args.payload c.args.header is c.outline_of-outline.result.places c.outline_of-outline.ensures.laid ((c.requires.of source).1) _ t _ w c.len.result c.payload_start-limit.result front refl
+    (c.in_ok-judge_other.ensures.unchanged.same tells) long (c.in_ok-judge_fit.ensures.formed b is) (c.write_over.ensures.rest tells) (c.in_ok-write_over.ensures.gone tells) (c.in_ok-write_over.ensures.copied source tells) (c.in_ok-write_over.ensures.lead tells) in
+    own_volume b c.args.payload c.args.header c.outline_of-outline.result.places t w over
+    (c.in_ok-judge_other.ensures.same tells b (record { header = c.args.header; is_header = is; is = c.outline_of-outline.ensures.identity }) may any)
