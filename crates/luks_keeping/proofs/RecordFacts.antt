@@ -1,18 +1,18 @@
 -- What the digests of segments say, of headers that were read, and whether two headers are of the same volume by them.
-use Rattle.std.proofs.Common.{◌≡◌, ◌≢◌, ◌↔◌, ℕ, ◌<◌, List, Bool, false, true, not, IsTrue, Option, Some, None, slice_index_or, refl, sym, ap, subst, ◌∙◌, arith, inl, inr}
+use Rattle.std.proofs.Common.{◌≡◌, ◌↔◌, ℕ, ◌<◌, List, length, take, min, Bool, false, true, not, IsTrue, Option, Some, None, Result, Ok, Err, OnOk, slice_index_or, refl, sym, ap, subst, ◌∙◌, arith, inl, inr}
+use Rattle.std.proofs.lemmas.List.{take_min}
 use Rattle.std.proofs.lemmas.Bool.{cases_lt, false≢true}
 use Rattle.serde_json.specs.Data.{Data as Value}
 use Rattle.luks_area.specs.Ranges.{part}
-use Rattle.luks1_header.specs.declared.fault.HeadFault.{HeadFault}
 use Rattle.luks2_header.proofs.ChoiceFacts.{choices_agree, uuid_sound}
 use Rattle.luks2_header.specs.Header2.{header_at, uuid_field}
 use Rattle.luks2_header.specs.Selection.{luks1, luks2, nothing, Choice, Chosen}
 use Rattle.luks_rules.proofs.AreaFaults.{one_value}
 use Rattle.luks_rules.proofs.Deciding.{metadata_faultless}
 use Rattle.luks_rules.specs.Faults.{object_at}
-use Rattle.luks_rules.specs.declared.fault.MetaFault.{MetaFault}
 use Rattle.luks_rules.specs.declared.table.Section.TheVariants.{Digests}
 use Rattle.luks_meta.specs.Content.{content}
+use Rattle.luks_reading.specs.ChosenCopies.{IsFromOutside}
 use Rattle.luks_reading.specs.Header.{json_at, IsHeader, IsReadFaultAs, IsUnread}
 use Rattle.luks_reading.specs.KeyDigests.{IsFirstDigestOf}
 use Rattle.luks_reading.specs.declared.header.Header.{Header}
@@ -21,10 +21,13 @@ use Rattle.luks_reading.specs.declared.read_fault.ReadFault.{ReadFault}
 use Rattle.luks_reading.specs.declared.read_fault.ReadFault.TheVariants as read
 use Rattle.luks_keeping.specs.Kept.{HasHeader}
 use Rattle.luks_keeping.specs.Laid.{choice_of}
-use Rattle.luks_keeping.specs.SameKeys.{AgreeAt, AreOfOne, FindsRecord, HasNoRecord, Identifies, IsHeaderRecord, IsIdentity, told}
-use Rattle.luks_keeping.specs.SameVolume.{uuid_bytes, AgreeOn, DigestRecord, HasAnyHeader, HasNone, IsAccepted2, IsAcceptedAs, IsOtherVolume, IsRecord1, IsRecord2, IsRecordAs, IsRecordIn, IsSameRecord, IsSameVolume, IsSameVolumeAs, SameHash, SaysRecord}
+use Rattle.luks_keeping.specs.SameKeys.{AgreeAt, AreOfOne, FindsRecord, HasNoRecord, IsHeaderRecord, IsIdentity, told}
+use Rattle.luks_keeping.specs.SameVolume.{uuid_bytes, AgreeOn, DigestRecord, HasAnyHeader, HasNone, IsAccepted2, IsAcceptedAs, IsAssigned, IsEncrypted, IsOtherVolume, IsRecord1, IsRecord2, IsRecordAs, IsRecordIn, IsSameRecord, IsSameVolume, IsSameVolumeAs, SameHash, SaysRecord}
 use Rattle.luks_keeping.specs.declared.identity.Identity.{Identity}
 use Rattle.luks_keeping.specs.declared.identity.KeyRecord.{KeyRecord}
+use Rattle.luks_keeping.specs.RestoreFaults.{IsKeptFrom}
+use Rattle.luks_keeping.specs.declared.over.Over.{Over}
+use Rattle.luks_keeping.specs.declared.over.Over.TheVariants.{SameVolume}
 use Rattle.luks_keeping.proofs.KeptFacts.{fields_same, header_same, json_same}
 use Rattle.luks_keeping.proofs.KeyFacts.{some_same}
 use Rattle.luks_keeping.proofs.LaidFacts.{chosen_of}
@@ -49,11 +52,11 @@ first_one j n k m x y = elim (cases_lt k m) [
 ]
 
 -- a digest says one thing
-one_said : (object : Value) (d e : DigestRecord) → SaysRecord object d → SaysRecord object e → AreEqual d e
-one_said object d e x y =
+one_said : (o : Value) (d e : DigestRecord) → SaysRecord o d → SaysRecord o e → AreEqual d e
+one_said o d e x y =
     let name : x.name ≡ y.name = some_same x.name y.name (sym x.named ∙ y.named) in
     record {
-      hash = x.hash ∙ ap (λ l. Some (part l 0 64)) name ∙ sym y.hash;
+      hash = x.hash ∙ ap (λ l. Some (part l 0 128)) name ∙ sym y.hash;
       iterations = some_same d.iterations e.iterations (sym x.iterations ∙ y.iterations);
       salt = some_same d.salt e.salt (sym x.salt ∙ y.salt);
       bytes = some_same d.bytes e.bytes (sym x.bytes ∙ y.bytes);
@@ -185,22 +188,38 @@ not_accepted t (luks2 o copies) read.Device bad a = bad
 not_accepted t (luks2 o copies) read.Memory bad a = bad
 not_accepted t nothing f bad a = a
 
-pub head_unsame : (b t : List ℕ) (f : HeadFault) → IsUnread t (read.Head f) → IsTrue false ↔ IsSameVolume b t
-head_unsame b t f x = (λ q. absurd (false≢true q), λ s. absurd (
-    not_accepted t s.other (read.Head f) (subst (λ (c : Choice). IsReadFaultAs t c (read.Head f)) (choices_agree t x.0.choice s.other x.0.chosen s.counts) x.0.fault) s.same.there))
+unread_as : (t : List ℕ) (c : Choice) (f : ReadFault) → Chosen t c → IsUnread t f → (IsFromOutside f → ⊥) → IsAcceptedAs t c → ⊥
+unread_as t c (read.Head f) chosen x own = not_accepted t c (read.Head f) (subst (λ (d : Choice). IsReadFaultAs t d (read.Head f)) (choices_agree t x.0.choice c x.0.chosen chosen) x.0.fault)
+unread_as t c (read.Meta f) chosen x own = not_accepted t c (read.Meta f) (subst (λ (d : Choice). IsReadFaultAs t d (read.Meta f)) (choices_agree t x.0.choice c x.0.chosen chosen) x.0.fault)
+unread_as t c read.Device chosen x own = absurd (own tt)
+unread_as t c read.Memory chosen x own = absurd (own tt)
 
-pub meta_unsame : (b t : List ℕ) (f : MetaFault) → IsUnread t (read.Meta f) → IsTrue false ↔ IsSameVolume b t
-meta_unsame b t f x = (λ q. absurd (false≢true q), λ s. absurd (
-    not_accepted t s.other (read.Meta f) (subst (λ (c : Choice). IsReadFaultAs t c (read.Meta f)) (choices_agree t x.0.choice s.other x.0.chosen s.counts) x.0.fault) s.same.there))
+pub unread_unsame : (b t : List ℕ) (f : ReadFault) → IsUnread t f → (IsFromOutside f → ⊥) → IsTrue false ↔ IsSameVolume b t
+unread_unsame b t f x own = (λ q. absurd (false≢true q), λ s. absurd (unread_as t s.other f s.counts x own s.same.there))
 
--- nor is one that isn't read the other's
-pub head_unlike : (b t : List ℕ) (f : HeadFault) → IsUnread b (read.Head f) → IsSameVolume b t → ⊥
-head_unlike b t f x = λ s.
-    not_accepted b s.choice (read.Head f) (subst (λ (c : Choice). IsReadFaultAs b c (read.Head f)) (choices_agree b x.0.choice s.choice x.0.chosen s.chosen) x.0.fault) s.same.here
+pub unread_unlike : (b t : List ℕ) (f : ReadFault) → IsUnread b f → (IsFromOutside f → ⊥) → IsSameVolume b t → ⊥
+unread_unlike b t f x own s = unread_as b s.choice f s.chosen x own s.same.here
 
-pub meta_unlike : (b t : List ℕ) (f : MetaFault) → IsUnread b (read.Meta f) → IsSameVolume b t → ⊥
-meta_unlike b t f x = λ s.
-    not_accepted b s.choice (read.Meta f) (subst (λ (c : Choice). IsReadFaultAs b c (read.Meta f)) (choices_agree b x.0.choice s.choice x.0.chosen s.chosen) x.0.fault) s.same.here
+-- ---- what is found of one header
+
+-- the name of a hash, as much of it as is compared
+pub first_part : (v w : List ℕ) (n : ℕ) (x : List ℕ) → w ≡ v → n ≡ min 128 (length w) → x ≡ part w 0 n → x ≡ part v 0 128
+first_part v w n x same least is = is ∙ ap (λ k. take k w) least ∙ take_min 128 w ∙ ap (λ l. part l 0 128) same
+
+pub encrypted_found : (j : Value) (n : ℕ) (o : Option KeyRecord) → IsEncrypted j n → FindsRecord (IsAssigned j n) o → FindsRecord (IsRecord2 j n) o
+encrypted_found j n None encrypted found = λ d x. found d x.assigned
+encrypted_found j n (Some r) encrypted found = record { encrypted = encrypted; assigned = found }
+
+-- ---- what may be written over
+
+pub kept_by : {A F : Type 0} (b t : List ℕ) (over : Over) → over ≡ SameVolume → (r : Result A F) → OnOk r (HasAnyHeader t → IsSameVolume b t) → OnOk r (IsKeptFrom b t over → ⊥)
+kept_by b t over is (Ok u) same = λ kept. (let other : IsOtherVolume b t = subst (IsKeptFrom b t) is kept in other.differs (same other.header))
+kept_by b t over is (Err f) same = same
+
+pub same_by_name : {A F : Type 0} (b t : List ℕ) (over : Over) (r : Result A F) → OnOk r (HasAnyHeader t → IsSameVolume b t)
+    → OnOk r (over ≡ SameVolume → HasAnyHeader t → IsSameVolume b t)
+same_by_name b t over (Ok u) same = λ is. same
+same_by_name b t over (Err f) same = same
 
 -- ---- the other way round, and where a header was put
 

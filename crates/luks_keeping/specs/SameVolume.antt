@@ -41,11 +41,11 @@ pub record IsRecord1 (h : List ℕ) (n : ℕ) (d : DigestRecord) : Type 0 where
   pub salt : d.salt ≡ mk_digest_salt_of h
   pub bytes : d.bytes ≡ mk_digest_of h
 
--- the object of a digest says so; of the name of its hash the first 64 bytes count, and no hash has a longer one
+-- the object of a digest says so; of the name of its hash the first 128 bytes count, and no hash has a longer one
 pub record SaysRecord (object : Value) (d : DigestRecord) : Type 0 where
   pub name : List ℕ
   pub named : text_of (member_at object Top member.Hash) ≡ Some name
-  pub hash : d.hash ≡ Some (part name 0 64)
+  pub hash : d.hash ≡ Some (part name 0 128)
   pub iterations : small_at object Top member.Iterations ≡ Some d.iterations
   pub salt : bytes_in 1 128 (member_at object Top member.Salt) ≡ Some d.salt
   pub bytes : bytes_in 20 64 (member_at object Top member.Digest) ≡ Some d.bytes

@@ -25,6 +25,9 @@ const SALT_END: usize = 164;
 
 const ITERATIONS: usize = 164;
 
+/// How many bytes of the name of a hash are compared; no hash has a longer one.
+const LONGEST_NAME: usize = 128;
+
 const UUID: usize = 168;
 
 const UUID_END: usize = 208;
@@ -41,8 +44,8 @@ pub(crate) struct KeyDigest {
 /// What the digest of a segment says.
 #[derive(Drop)]
 pub(crate) struct KeyRecord {
-    /// The first 64 bytes of the name of its hash. That of LUKS1 has none: its hash is that of the whole header.
-    pub(crate) hash: Option<ArrayVec<u8, 64>>,
+    /// The first 128 bytes of the name of its hash. That of LUKS1 has none: its hash is that of the whole header.
+    pub(crate) hash: Option<ArrayVec<u8, 128>>,
     /// The iterations of PBKDF2.
     pub(crate) iterations: u32,
     /// Its salt and its bytes.
@@ -239,14 +242,12 @@ fn record_at(meta: &Meta, number: u8, n: u8) -> Option<KeyRecord>
     }
 }
 
-/// The first 64 bytes of a name.
-fn first_bytes(name: &str) -> ArrayVec<u8, 64>
-    ensures { result.items ≡ part name.now 0 64 }
+/// The first bytes of a name, as many as are compared.
+fn first_bytes(name: &str) -> ArrayVec<u8, 128>
+    ensures { result.items ≡ part name.now 0 128 }
 {
     let bytes = name.as_bytes();
-    let mut held = ArrayVec::new();
-    held.try_extend_from_slice(&bytes[..bytes.len().min(64)]).unwrap();
-    held
+    held(field(bytes, 0, LONGEST_NAME.min(bytes.len())))
 }
 
 /// These bytes.
@@ -306,7 +307,7 @@ fn is_same_record(here: &KeyRecord, there: &KeyRecord) -> bool
 }
 
 /// Whether these are the same, or one of the two isn't there.
-fn has_same_hash(here: &Option<ArrayVec<u8, 64>>, there: &Option<ArrayVec<u8, 64>>) -> bool
+fn has_same_hash(here: &Option<ArrayVec<u8, 128>>, there: &Option<ArrayVec<u8, 128>>) -> bool
     ensures { IsTrue result
         ↔ SameHash (option_map (λ h. h.items) here.now) (option_map (λ h. h.items) there.now) }
 {

@@ -93,8 +93,14 @@ fn of_other_volumes(rt: HostRuntime) -> Result<(), Fail> {
     let same_key = is_other(rt.alloc(), &image, &renamed(rt.alloc(), &image)?)?;
     assert!(rt; !same_key, "another uuid, the same digest");
     let same_uuid = is_other(rt.alloc(), &image, &other_hash)?;
-    assert!(rt; !same_uuid, "the same uuid, another digest");
-    let other = is_other(rt.alloc(), &image, &renamed(rt.alloc(), &other_hash)?)?;
-    assert!(rt; other, "another uuid, another digest");
+    assert!(rt; same_uuid, "the same uuid, another digest");
+    let luks2 = small2(rt.alloc(), HashName::Sha256)?;
+    let mut of_luks1 = image.to_vec(rt.alloc())?;
+    // the iterations of the digest
+    put(&mut of_luks1, 164, b"\0\0\x04\0");
+    let iterations = is_other(rt.alloc(), &image, &of_luks1)?;
+    assert!(rt; iterations, "the same digest and salt, other iterations");
+    let converted = is_other(rt.alloc(), &image, &luks2)?;
+    assert!(rt; !converted, "LUKS1 and LUKS2 of one digest");
     Ok(())
 }

@@ -75,7 +75,10 @@ fn a_small_volume(rt: HostRuntime) -> Result<(), Fail> {
 fn another_volume(rt: HostRuntime) -> Result<(), Fail> {
     let image = small1(rt.alloc(), HashName::Sha256)?;
     let kept = backup_of(rt.alloc(), &image)?;
-    let other = renamed(rt.alloc(), &small1(rt.alloc(), HashName::Sha512)?)?;
+    let reencrypted = small1(rt.alloc(), HashName::Sha512)?;
+    let end = end_of(&rt, rt.alloc(), &kept, &reencrypted)?;
+    assert!(rt; end == End::OtherVolume, "the same uuid and another digest");
+    let other = renamed(rt.alloc(), &reencrypted)?;
     let end = end_of(&rt, rt.alloc(), &kept, &other)?;
     assert!(rt; end == End::OtherVolume, "another uuid and another digest");
     Ok(())
