@@ -209,12 +209,12 @@ format_after tells making key passphrase random total total' old mid new before 
 -- a volume that isn't to be written over isn't
 pub format_holds : {D : Type 0} (tells : Type 0) (size : D → ℕ) (bytes : D → List ℕ) (failed : D → ℕ) (making : Making) (HasWords HasKey : List ℕ → Type 0) (is_long : Type 0)
     (unread : InputFault → Type 0) (HasRandom : List ℕ → Type 0) (old new : Result D InputFault) (a : Answer)
-    → AnswersFormat tells size bytes failed making HasWords HasKey is_long unread HasRandom old new a → HoldsBackDevice tells bytes making.over (HasOther None) old new a
+    → AnswersFormat tells size bytes failed making HasWords HasKey is_long unread HasRandom old new a → HoldsBackDevice tells bytes making.over (HasOther false) old new a
 format_holds {D} tells size bytes failed making HasWords HasKey is_long unread HasRandom (Ok old) (Ok new) a (inl said) = λ told is stands.
-    (said.2 told, wordless_answers (HasOther None (bytes old)) (bytes old) is_long unread a said.0)
+    (said.2 told, wordless_answers (HasOther false (bytes old)) (bytes old) is_long unread a said.0)
 format_holds {D} tells size bytes failed making HasWords HasKey is_long unread HasRandom (Ok old) (Ok new) a (inr (inl held)) = λ told is stands.
-    (held.same told, subst (IsBarAnswer (HasOther None (bytes old)) (bytes old)) (sym held.is) (bar_answers tells told making.over (HasOther None (bytes old)) (bytes old) held.bar held.barred))
+    (held.same told, subst (IsBarAnswer (HasOther false (bytes old)) (bytes old)) (sym held.is) (bar_answers tells told making.over (HasOther false (bytes old)) (bytes old) held.bar held.barred))
 format_holds {D} tells size bytes failed making HasWords HasKey is_long unread HasRandom (Ok old) (Ok new) a (inr (inr said)) = λ told is stands.
-    clear_none making.over (HasOther None (bytes old)) (bytes old) (said.clear told) is stands
+    clear_none making.over (HasOther false (bytes old)) (bytes old) (said.clear told) is stands
 format_holds {D} tells size bytes failed making HasWords HasKey is_long unread HasRandom (Ok old) (Err fault) a said = tt
 format_holds {D} tells size bytes failed making HasWords HasKey is_long unread HasRandom (Err fault) new a said = tt

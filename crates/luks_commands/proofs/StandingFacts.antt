@@ -15,15 +15,13 @@ use Rattle.luks_reading.specs.declared.report.Data.TheVariants.{Elsewhere}
 use Rattle.luks_reading.proofs.CheckFacts.{outside}
 use Rattle.luks_reading.proofs.VolumeLaws.{well_formed_faultless}
 use Rattle.luks_keeping.specs.OtherHeaders.{selected_uuid}
-use Rattle.luks_keeping.specs.SameKeys.{Identifies}
-use Rattle.luks_keeping.specs.SameVolume.{uuid_bytes, IsSameVolume}
-use Rattle.luks_keeping.specs.declared.identity.Identity.{Identity}
+use Rattle.luks_keeping.specs.SameVolume.{uuid_bytes}
 use Rattle.luks_signatures.specs.Signatures.{Finds, table}
 use Rattle.luks_signatures.specs.declared.other_use.OtherUse.{OtherUse as Use}
 use Rattle.luks_signatures.proofs.FirstFacts.{finds-one}
 use Rattle.luks_commands.specs.Answer.{answer_status, IsWordless, unread_answer}
 use Rattle.luks_commands.specs.Reencrypting.{IsReencrypting, IsUnaskedMetadata, IsUntoldMetadata}
-use Rattle.luks_commands.specs.Standing.{bar_answer, HasOther, HasUse, IsBar, IsBarAnswer, IsClear, IsHeaderBar, IsOwn, IsOwnVolume, IsUnasked, IsUuidOf}
+use Rattle.luks_commands.specs.Standing.{bar_answer, HasOther, HasUse, IsBar, IsBarAnswer, IsClear, IsHeaderBar, IsUnasked, IsUuidOf}
 use Rattle.luks_commands.specs.declared.answers.Answer.{Answer}
 use Rattle.luks_commands.specs.declared.answers.Status.TheVariants.{Done, NotInStep}
 use Rattle.luks_commands.specs.declared.inputs.InputFault.{InputFault}
@@ -73,24 +71,14 @@ clear_none over Other v clear is (inr (inr use_of)) = absurd (clear.use_of is us
 
 -- ---- the header
 
--- one that is accepted is another's where it isn't of the same volume
-pub other_by : (own : Option (List ℕ)) (t : List ℕ) → WellFormed t Elsewhere → (b : Bool) → (IsTrue b ↔ IsOwnVolume own t) → IsTrue (not b) ↔ HasOther own t
-other_by own t formed true same = (λ q. absurd (false≢true q), λ x. absurd (x.other (same.0 refl)))
-other_by own t formed false same = (λ q. record { formed = formed; other = λ x. false≢true (same.1 x) }, λ x. refl)
-
--- what an identity tells of it, and where there is none
-pub own_told : (own : Option (List ℕ)) (t : List ℕ) (identity : Identity) (h : Header) (same : Bool)
-    → ((b u : List ℕ) → Identifies b identity → IsHeader u h → IsTrue same ↔ IsSameVolume b u) → IsOwn own (Some identity) → IsHeader t h → IsTrue same ↔ IsOwnVolume own t
-own_told None t identity h same by is stands = absurd is
-own_told (Some v) t identity h same by is stands = by v t is stands
-
-pub own_none : (own : Option (List ℕ)) (t : List ℕ) → IsOwn own None → IsTrue false ↔ IsOwnVolume own t
-own_none None t is = (λ q. absurd (false≢true q), λ x. absurd x)
-own_none (Some v) t is = (λ q. absurd (false≢true q), λ x. absurd (is t x))
+-- one that is accepted is another's where it isn't the command's own
+pub other_by : (v : List ℕ) (is_own : Bool) → WellFormed v Elsewhere → IsTrue (not is_own) ↔ HasOther is_own v
+other_by v true formed = (λ q. absurd (false≢true q), λ x. absurd (false≢true (sym x.other)))
+other_by v false formed = (λ q. record { formed = formed; other = refl }, λ x. refl)
 
 -- none is accepted where the check refuses the volume
-pub none_other : (v : List ℕ) (volume : Option (List ℕ)) (f : CheckFault) → IsCheckRefusal v Elsewhere f → (IsFromOutside f → ⊥) → HasOther volume v → ⊥
-none_other v volume f refusal own x = own (outside v Elsewhere f (well_formed_faultless v Elsewhere x.formed) refusal)
+pub none_other : (v : List ℕ) (is_own : Bool) (f : CheckFault) → IsCheckRefusal v Elsewhere f → (IsFromOutside f → ⊥) → HasOther is_own v → ⊥
+none_other v is_own f refusal own x = own (outside v Elsewhere f (well_formed_faultless v Elsewhere x.formed) refusal)
 
 -- ---- the source's uuid
 

@@ -53,7 +53,7 @@ IsFormatAnswer tells making key passphrase random total old new before after a =
 -- the first that theirs has
 pub record IsMaking (tells : Type 0) (making : Making) (HasWords HasKey HasRandom : List ℕ → Type 0) (total : ℕ) (old new : List ℕ) (before after : ℕ) (a : Answer)
     : Type 0 where
-  pub clear : tells → IsClear making.over (HasOther None old) old
+  pub clear : tells → IsClear making.over (HasOther false old) old
   pub passphrase : List ℕ
   pub words : HasWords passphrase
   pub key : Option (Bor (List ℕ))
@@ -69,7 +69,7 @@ IsUnreadAny passphrase key count random f = IsUnread passphrase f ⊎ (IsUnread 
 -- what stands on the volume bars it: another use, or any accepted LUKS header
 abbrev pub IsBarredFormat : Type 0 → Making → List ℕ → List ℕ → ℕ → ℕ → Answer → Type 0
 IsBarredFormat tells making old new before after a =
-    IsHeldBack tells (IsBar tells making.over (HasOther None old) old) (λ is_failure. after ≡ count_after is_failure before) old new a
+    IsHeldBack tells (IsBar tells making.over (HasOther false old) old) (λ is_failure. after ≡ count_after is_failure before) old new a
 
 -- the same of a volume that may not be there, and of files that can't be read, which leaves it as it was
 abbrev pub AnswersFormat : {D : Type 0} → Type 0 → (D → ℕ) → (D → List ℕ) → (D → ℕ) → Making → (List ℕ → Type 0) → (List ℕ → Type 0) → Type 0 → (InputFault → Type 0) → (List ℕ → Type 0)

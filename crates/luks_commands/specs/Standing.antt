@@ -5,9 +5,7 @@ use Rattle.luks2_header.specs.Selection.{nothing, Choice, Chosen}
 use Rattle.luks_reading.specs.Checked.{WellFormed}
 use Rattle.luks_reading.specs.Header.{NeedsMetadata}
 use Rattle.luks_reading.specs.declared.report.Data.TheVariants.{Elsewhere}
-use Rattle.luks_keeping.specs.SameKeys.{Identifies}
-use Rattle.luks_keeping.specs.SameVolume.{uuid_bytes, IsSameVolume}
-use Rattle.luks_keeping.specs.declared.identity.Identity.{Identity}
+use Rattle.luks_keeping.specs.SameVolume.{uuid_bytes}
 use Rattle.luks_signatures.specs.Signatures.{Finds, table}
 use Rattle.luks_signatures.specs.declared.other_use.OtherUse.{OtherUse as Use}
 use Rattle.luks_commands.specs.declared.answers.Answer.{Answer}
@@ -27,23 +25,10 @@ abbrev pub IsUuidOf : List ℕ → Option (List ℕ) → Type 0
 IsUuidOf v None = Chosen v nothing
 IsUuidOf v (Some field_) = (choice : Choice) × Chosen v choice × (choice ≢ nothing) × (field_ ≡ uuid_bytes v choice)
 
--- the header that counts on the disk `t` is of the same volume as that of the volume `v`, if there is such a volume
-abbrev pub IsOwnVolume : Option (List ℕ) → List ℕ → Type 0
-IsOwnVolume None t = ⊥
-IsOwnVolume (Some v) t = IsSameVolume v t
-
--- The disk `t` has a LUKS header that is accepted, at least as a detached one, and isn't of the same volume; where there is no
--- such volume, any accepted header is another's.
-pub record HasOther (own : Option (List ℕ)) (t : List ℕ) : Type 0 where
-  pub formed : WellFormed t Elsewhere
-  pub other : IsOwnVolume own t → ⊥
-
--- what tells the volume of the header that counts of the volume, if that is accepted: a word of private contracts
-abbrev pub IsOwn : Option (List ℕ) → Option Identity → Type 0
-IsOwn None None = ⊤
-IsOwn None (Some identity) = ⊥
-IsOwn (Some v) None = (t : List ℕ) → IsSameVolume v t → ⊥
-IsOwn (Some v) (Some identity) = Identifies v identity
+-- the disk `v` has a LUKS header that is accepted, at least as a detached one, and isn't of the command's own volume
+pub record HasOther (is_own : Bool) (v : List ℕ) : Type 0 where
+  pub formed : WellFormed v Elsewhere
+  pub other : is_own ≡ false
 
 -- ---- what bars a command
 

@@ -70,7 +70,7 @@ pub fn run<D: Device, R: Read, N: Read, E: Write>(
         Ok(device) => device,
         Err(fault) => return unread(*fault, name, err),
     };
-    match judge_standing(alloc, device, &None, making.over) {
+    match judge_standing(alloc, device, false, making.over) {
         Ok(()) => {}
         Err(bar) => return held_back(bar, name, err),
     }

@@ -29,6 +29,6 @@ pub use passphrase_file::{PassphraseFault, first_bytes, first_line, passphrase};
 pub use printer::{CountingPrinter, Printer, Unprinted};
 pub use random_file::{RandomBytes, few_random_bytes, random_bytes};
 pub use reencrypting::is_reencrypting;
-pub use standing::{Bar, held_back, identity_there, judge_standing, standing_use_of, uuid_of};
+pub use standing::{Bar, bar_of, held_back, judge_standing, standing_use_of, uuid_of};
 pub use underway_refusal::UnderwayRefusal;
 pub use underway_shown::UnderwayShown;

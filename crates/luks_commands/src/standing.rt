@@ -1,19 +1,18 @@
 //! What stands on a device that a command would write over.
-ghost use Rattle.std.specs.Prelude.{◌≡◌, ◌≢◌, ◌↔◌, ◌+◌, ◌<◌, ◌^◌, List, ℕ, Option, IfErr, IfOk, IsTrue, OnOk, Some};
+ghost use Rattle.std.specs.Prelude.{◌≡◌, ◌≢◌, ◌↔◌, ◌+◌, ◌<◌, ◌^◌, IfErr, IfOk, IsTrue, OnOk};
 ghost use Rattle.luks_area.specs.Device.{CountsFailure, IsUnchanged, is_failure};
-ghost use Rattle.luks_reading.specs.Header.{IsAcceptedHeader, IsHeader};
 ghost use Rattle.luks_signatures.specs.Signatures.{Finds, table};
 ghost use Rattle.luks_commands.specs.Answer.{answer_status};
-ghost use Rattle.luks_commands.specs.Standing.{bar_answer, HasOther, is_bar_failure, IsBar, IsClear, IsHeaderBar, IsHeaderClear, IsOwn, IsOwnVolume, IsUnasked, IsUuidOf};
+ghost use Rattle.luks_commands.specs.Standing.{bar_answer, HasOther, is_bar_failure, IsBar, IsClear, IsHeaderBar, IsHeaderClear, IsUnasked, IsUuidOf};
+ghost use Rattle.luks_commands.specs.Reencrypting.{IsFromOutside};
+ghost use Rattle.luks_keeping.specs.RestoreFaults.{is_restore_failure};
 ghost use Rattle.luks_area.specs.Ranges.{part};
 ghost use Rattle.luks_keeping.specs.OtherHeaders.{selected_uuid};
 
 use crate::answers::{Answer, Refusal, Status, device_fault};
 use crate::reencrypting::is_reencrypting;
-use luks_keeping::{Identity, accepted_header, identity_of, is_header_of};
-use luks_reading::{
-    CheckFault, Data, Device, DeviceFault, Header, ReadFault, Selected, read_header, select,
-};
+use luks_keeping::{RestoreFault, accepted_header};
+use luks_reading::{CheckFault, Data, Device, DeviceFault, ReadFault, Selected, select};
 use luks_signatures::{OtherUse, first_use};
 use luks1_header::fields::field;
 use std::alloc::Global;
@@ -76,31 +75,43 @@ pub fn held_back<E: Write>(bar: Bar, file: &str, err: &mut E) -> Answer
     }
 }
 
-/// Refuses where an accepted LUKS header stands on the device that isn't of the volume whose header has this identity,
-/// where the metadata of a reencryption does, or where the disk has another use. Where it may be written over nothing is
-/// asked, so that a place that can't be read stops nothing.
+/// Why a command doesn't go on where it isn't told whether two headers are of the same volume: that a device failed, or else
+/// that memory was refused.
+pub fn bar_of(fault: RestoreFault) -> Bar
+    ensures same { is_bar_failure result ≡ is_restore_failure fault }
+    ensures kinds { IsFromOutside result }
+{
+    match fault {
+        RestoreFault::Device => Bar::Device,
+        _ => Bar::Memory,
+    }
+}
+
+/// Refuses where an accepted LUKS header stands on the device, unless it is of the command's own volume, where the
+/// metadata of a reencryption does, or where the disk has another use. Where it may be written over nothing is asked, so
+/// that a place that can't be read stops nothing.
 ///
 /// Takes memory for the metadata of LUKS2 alone.
 #[inline(never)]
 pub fn judge_standing<D: Device>(
     alloc: Global,
     device: &mut D,
-    own: &Option<Identity>,
+    is_own: bool,
     over: bool,
 ) -> Result<(), Bar>
     requires { D.failed device.old + 1 < 2 ^ 64 }
     ensures unchanged { IsUnchanged D.tells D.size D.bytes D.unsettled device.old device.new }
     ensures count { CountsFailure is_bar_failure result
         (D.failed device.old) (D.failed device.new) }
-    ensures barred { (v : Option (List ℕ)) → (D.tells → IsOwn v own.now) → IfErr result
-        (IsBar D.tells over (HasOther v (D.bytes device.old)) (D.bytes device.old)) }
-    ensures clear { D.tells → (v : Option (List ℕ)) → IsOwn v own.now → OnOk result
-        (IsClear over (HasOther v (D.bytes device.old)) (D.bytes device.old)) }
+    ensures barred { IfErr result
+        (IsBar D.tells over (HasOther is_own (D.bytes device.old)) (D.bytes device.old)) }
+    ensures clear { D.tells → OnOk result
+        (IsClear over (HasOther is_own (D.bytes device.old)) (D.bytes device.old)) }
 {
     if over {
         return Ok(());
     }
-    judge_headers(alloc, device, own)?;
+    judge_headers(alloc, device, is_own)?;
     match standing_use_of(device)? {
         Some(found) => Err(Bar::OtherUse(found)),
         None => Ok(()),
@@ -108,21 +119,17 @@ pub fn judge_standing<D: Device>(
 }
 
 /// Refuses where an accepted LUKS header of another volume stands there, or the metadata of a reencryption.
-fn judge_headers<D: Device>(
-    alloc: Global,
-    device: &mut D,
-    own: &Option<Identity>,
-) -> Result<(), Bar>
+fn judge_headers<D: Device>(alloc: Global, device: &mut D, is_own: bool) -> Result<(), Bar>
     requires { D.failed device.old + 1 < 2 ^ 64 }
     ensures unchanged { IsUnchanged D.tells D.size D.bytes D.unsettled device.old device.new }
     ensures count { CountsFailure is_bar_failure result
         (D.failed device.old) (D.failed device.new) }
-    ensures barred { (v : Option (List ℕ)) → (D.tells → IsOwn v own.now) → IfErr result
-        (IsHeaderBar D.tells (HasOther v (D.bytes device.old)) (D.bytes device.old)) }
-    ensures clear { D.tells → (v : Option (List ℕ)) → IsOwn v own.now → OnOk result
-        (IsHeaderClear (HasOther v (D.bytes device.old)) (D.bytes device.old)) }
+    ensures barred { IfErr result
+        (IsHeaderBar D.tells (HasOther is_own (D.bytes device.old)) (D.bytes device.old)) }
+    ensures clear { D.tells → OnOk result
+        (IsHeaderClear (HasOther is_own (D.bytes device.old)) (D.bytes device.old)) }
 {
-    if has_other(alloc, device, own)? {
+    if has_other(alloc, device, is_own)? {
         return Err(Bar::OtherVolume);
     }
     if is_reencrypting(alloc, device)? {
@@ -142,59 +149,23 @@ pub fn standing_use_of<D: Device>(device: &mut D) -> Result<Option<OtherUse>, De
     first_use(device, all)
 }
 
-/// Whether an accepted header of another volume stands there.
-fn has_other<D: Device>(
-    alloc: Global,
-    device: &mut D,
-    own: &Option<Identity>,
-) -> Result<bool, Bar>
+/// Whether an accepted header stands there that isn't of the command's own volume.
+fn has_other<D: Device>(alloc: Global, device: &mut D, is_own: bool) -> Result<bool, Bar>
     requires { D.failed device.old + 1 < 2 ^ 64 }
     ensures unchanged { IsUnchanged D.tells D.size D.bytes D.unsettled device.old device.new }
     ensures count { CountsFailure is_bar_failure result
         (D.failed device.old) (D.failed device.new) }
-    ensures has { D.tells → (v : Option (List ℕ)) → IsOwn v own.now → IfOk result (λ has.
-        IsTrue has ↔ HasOther v (D.bytes device.old)) }
+    ensures has { D.tells → IfOk result (λ has.
+        IsTrue has ↔ HasOther is_own (D.bytes device.old)) }
     ensures fault { IfErr result (IsUnasked D.tells (D.bytes device.old)) }
 {
     match accepted_header(alloc, device, Data::Elsewhere) {
-        Ok(header) => Ok(!is_own(own, &header)),
+        Ok(_) => Ok(!is_own),
         Err(CheckFault::Device) => Err(Bar::Device),
         Err(CheckFault::Memory) => Err(Bar::Memory),
         Err(CheckFault::Head(_)) => Ok(false),
         Err(CheckFault::Meta(_)) => Ok(false),
         Err(CheckFault::Area(_)) => Ok(false),
-    }
-}
-
-/// Whether the header is of the same volume as the one of this identity.
-fn is_own(own: &Option<Identity>, header: &Header) -> bool
-    requires { IsAcceptedHeader header.now }
-    ensures { (v : Option (List ℕ)) (t : List ℕ) → IsOwn v own.now → IsHeader t header.now
-        → (IsTrue result ↔ IsOwnVolume v t) }
-{
-    match own {
-        Some(identity) => is_header_of(identity, header),
-        None => false,
-    }
-}
-
-/// What tells the volume of the header that counts on the device, if one does that is accepted. Takes memory for the
-/// metadata of LUKS2 alone.
-#[inline(never)]
-pub fn identity_there<D: Device>(alloc: Global, device: &mut D) -> Result<Option<Identity>, Bar>
-    requires { D.failed device.old + 1 < 2 ^ 64 }
-    ensures unchanged { IsUnchanged D.tells D.size D.bytes D.unsettled device.old device.new }
-    ensures count { CountsFailure is_bar_failure result
-        (D.failed device.old) (D.failed device.new) }
-    ensures own { D.tells → IfOk result (IsOwn (Some (D.bytes device.old))) }
-    ensures fault { IfErr result (IsUnasked D.tells (D.bytes device.old)) }
-{
-    match read_header(alloc, device) {
-        Ok(header) => Ok(Some(identity_of(&header))),
-        Err(ReadFault::Head(_)) => Ok(None),
-        Err(ReadFault::Meta(_)) => Ok(None),
-        Err(ReadFault::Device) => Err(Bar::Device),
-        Err(ReadFault::Memory) => Err(Bar::Memory),
     }
 }
 

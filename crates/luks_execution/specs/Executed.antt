@@ -105,7 +105,7 @@ pub record Formats {D R N : Type 0} (device : Device D) (words : R → Option (L
       (IsLong words old.passphrase ⊎ IsLong words old.new_passphrase)
       (IsUnreadAny old.passphrase old.new_passphrase (needed making) old.random)
       (AreFirstBytes (needed making) chance old.random) old.volume new.volume answer
-  pub over : HoldsBackDevice device.tells device.bytes making.over (HasOther None) old.volume new.volume answer
+  pub over : HoldsBackDevice device.tells device.bytes making.over (HasOther false) old.volume new.volume answer
 
 -- of `convert`, `rebuild` and `backup`: the answer where both files are one, for which no call is made, and where they
 -- aren't; and which bytes of the target may have changed. Another use holds back the first two, and another volume's header.

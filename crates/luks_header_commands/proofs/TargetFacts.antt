@@ -1,10 +1,19 @@
 -- What is answered of the target of a command that makes a header.
-use Rattle.std.proofs.Common.{◌≡◌, ℕ, List, Bool, true, false, Result, Ok, Err, IfErr, sym, subst, ◌∙◌, inl, inr}
+use Rattle.std.proofs.Common.{◌≡◌, ◌↔◌, ◌⊎◌, ℕ, List, Bool, true, false, IsTrue, Result, Ok, Err, IfErr, OnOk, refl, sym, subst, ◌∙◌, inl, inr}
+use Rattle.std.proofs.lemmas.Bool.{false≢true}
 use Rattle.luks_area.specs.Device.{count_after, CountsFailure}
 use Rattle.luks_writing.specs.TwoDevices.{CountsAfter, CountsEither, IsOneFailure}
 use Rattle.luks_commands.specs.declared.answers.Answer.{Answer}
 use Rattle.luks_commands.specs.declared.inputs.InputFault.{InputFault}
-use Rattle.luks_commands.specs.Standing.{bar_answer, HoldsBack, IsBar, IsBarAnswer, IsClear, IsUnasked}
+use Rattle.luks_commands.specs.Reencrypting.{IsReencrypting, IsUnaskedMetadata}
+use Rattle.luks_commands.specs.Reencrypting as meta
+use Rattle.luks_commands.specs.Standing.{bar_answer, is_bar_failure, HasOther, HasUse, HoldsBack, IsBar, IsBarAnswer, IsClear}
+use Rattle.luks_reading.specs.Header.{NeedsMetadata}
+use Rattle.luks_keeping.specs.OtherHeaders.{IsUntoldEither}
+use Rattle.luks_keeping.specs.RestoreFaults.{is_restore_failure}
+use Rattle.luks_keeping.specs.SameVolume.{IsSameVolume}
+use Rattle.luks_keeping.specs.declared.restore_fault.RestoreFault.{RestoreFault}
+use Rattle.luks_keeping.specs.declared.restore_fault.RestoreFault.TheVariants as restore
 use Rattle.luks_commands.specs.declared.standing.Bar.{Bar}
 use Rattle.luks_commands.specs.declared.standing.Bar.TheVariants.{OtherUse, OtherVolume, Reencrypting, Memory, Device}
 use Rattle.luks_commands.proofs.StandingFacts.{clear_none}
@@ -77,26 +86,63 @@ header_holds {D} tells size bytes failed over says unread HasRandom (Err f) volu
 
 -- ---- what bars the command
 
-pub target_bars : (tells : Type 0) (over : Bool) (v t : List ℕ) (b : Bar) → IsBar tells over (IsOtherTarget v t) t b → IsTargetBar tells over v t b
-target_bars tells over v t (OtherUse found) bars = bars
-target_bars tells over v t OtherVolume bars = bars
-target_bars tells over v t Reencrypting bars = bars
-target_bars tells over v t Memory bars = (bars.0, λ told. inr (bars.1 told))
-target_bars tells over v t Device bars = bars
+-- by whether the header that stands there is of the same volume
+other_target : (own : Bool) (v t : List ℕ) → (IsTrue own ↔ IsSameVolume v t) → HasOther own t → IsOtherTarget v t
+other_target own v t same x = record { formed = x.formed; other = λ s. false≢true (sym x.other ∙ same.1 s) }
 
--- of what was answered
-pub bars_answered : {X : Type 0} (tells : Type 0) (over : Bool) (v t : List ℕ) (r : Result X Bar)
-    → IfErr r (IsBar tells over (IsOtherTarget v t) t) → IfErr r (IsTargetBar tells over v t)
-bars_answered tells over v t (Ok x) bars = bars
-bars_answered tells over v t (Err b) bars = target_bars tells over v t b bars
+own_target : (own : Bool) (v t : List ℕ) → (IsTrue own ↔ IsSameVolume v t) → IsOtherTarget v t → HasOther own t
+own_target true v t same x = absurd (x.other (same.0 refl))
+own_target false v t same x = record { formed = x.formed; other = refl }
 
--- why the volume's header isn't read
-pub unasked_target : (tells : Type 0) (over : Bool) (v t : List ℕ) (b : Bar) → over ≡ false → IsUnasked tells v b → IsTargetBar tells over v t b
-unasked_target tells over v t (OtherUse found) may is = absurd is
-unasked_target tells over v t OtherVolume may is = absurd is
-unasked_target tells over v t Reencrypting may is = absurd is
-unasked_target tells over v t Memory may is = (may, λ told. inl (is told))
-unasked_target tells over v t Device may is = tt
+target_bars : (tells : Type 0) (over : Bool) (v t : List ℕ) (own : Bool) → (tells → IsTrue own ↔ IsSameVolume v t) → (b : Bar)
+    → IsBar tells over (HasOther own t) t b → IsTargetBar tells over v t b
+target_bars tells over v t own same (OtherUse found) bars = bars
+target_bars tells over v t own same OtherVolume bars = (bars.0, λ told. other_target own v t (same told) (bars.1 told))
+target_bars tells over v t own same Reencrypting bars = bars
+target_bars tells over v t own same Memory bars = (bars.0, λ told. inr (bars.1 told))
+target_bars tells over v t own same Device bars = bars
+
+target_clears : (over : Bool) (v t : List ℕ) (own : Bool) → (IsTrue own ↔ IsSameVolume v t) → IsClear over (HasOther own t) t → IsClear over (IsOtherTarget v t) t
+target_clears over v t own same clear = record {
+  volume = λ may x. clear.volume may (own_target own v t same x);
+  reencryption = clear.reencryption;
+  use_of = clear.use_of;
+}
+
+moved_bar : (tells : Type 0) (over own : Bool) (t u : List ℕ) → (tells → u ≡ t) → (b : Bar) → IsBar tells over (HasOther own u) u b → IsBar tells over (HasOther own t) t b
+moved_bar tells over own t u still (OtherUse found) bars = (bars.0, λ told. subst (λ (l : List ℕ). HasUse l found) (still told) (bars.1 told))
+moved_bar tells over own t u still OtherVolume bars = (bars.0, λ told. subst (λ (l : List ℕ). HasOther own l) (still told) (bars.1 told))
+moved_bar tells over own t u still Reencrypting bars = (bars.0, λ told. subst IsReencrypting (still told) (bars.1 told))
+moved_bar tells over own t u still Memory bars = (bars.0, λ told. subst (λ (l : List ℕ). NeedsMetadata l ⊎ IsUnaskedMetadata l) (still told) (bars.1 told))
+moved_bar tells over own t u still Device bars = bars
+
+either_untold : {v t : List ℕ} → NeedsMetadata v ⊎ NeedsMetadata t → NeedsMetadata v ⊎ (NeedsMetadata t ⊎ IsUnaskedMetadata t)
+either_untold (inl x) = inl x
+either_untold (inr x) = inr (inl x)
+
+-- of what was answered of a target `u`, which is still `t`
+pub bars_answered : {X : Type 0} (tells : Type 0) (over : Bool) (v t u : List ℕ) (own : Bool) → (tells → IsTrue own ↔ IsSameVolume v t) → (tells → u ≡ t) → (r : Result X Bar)
+    → IfErr r (IsBar tells over (HasOther own u) u) → IfErr r (IsTargetBar tells over v t)
+bars_answered tells over v t u own same still (Ok x) bars = bars
+bars_answered tells over v t u own same still (Err b) bars = target_bars tells over v t own same b (moved_bar tells over own t u still b bars)
+
+pub clears_answered : {X : Type 0} (over : Bool) (v t u : List ℕ) (own : Bool) → (IsTrue own ↔ IsSameVolume v t) → u ≡ t → (r : Result X Bar)
+    → OnOk r (IsClear over (HasOther own u) u) → OnOk r (IsClear over (IsOtherTarget v t) t)
+clears_answered over v t u own same still (Ok x) clear = target_clears over v t own same (subst (λ (l : List ℕ). IsClear over (HasOther own l) l) still clear)
+clears_answered over v t u own same still (Err b) clear = clear
+
+-- why it isn't told whether the two are of one volume
+pub untold_target : (tells : Type 0) (over : Bool) (v t : List ℕ) (f : RestoreFault) (b : Bar) → over ≡ false → is_bar_failure b ≡ is_restore_failure f → meta.IsFromOutside b
+    → (tells → IsUntoldEither v t f) → IsTargetBar tells over v t b
+untold_target tells over v t f Device may same kinds untold = tt
+untold_target tells over v t restore.Memory Memory may same kinds untold = (may, λ told. either_untold (untold told))
+untold_target tells over v t restore.Device Memory may same kinds untold = absurd (false≢true same)
+untold_target tells over v t restore.OtherVolume Memory may same kinds untold = (may, λ told. absurd (untold told))
+untold_target tells over v t (restore.NotAccepted f) Memory may same kinds untold = (may, λ told. absurd (untold told))
+untold_target tells over v t (restore.DoesNotFit f) Memory may same kinds untold = (may, λ told. absurd (untold told))
+untold_target tells over v t f (OtherUse found) may same kinds untold = absurd kinds
+untold_target tells over v t f OtherVolume may same kinds untold = absurd kinds
+untold_target tells over v t f Reencrypting may same kinds untold = absurd kinds
 
 -- the volume's call hadn't failed, and the target's counts
 pub counts_then : {X F : Type 0} (is_failure : F → Bool) (r : Result X F) (s t u w : ℕ) → t ≡ s → CountsFailure is_failure r u w → CountsEither is_failure r s t u w

@@ -1,14 +1,17 @@
 -- The target of a command that makes a separate header: what is answered of it.
-use Rattle.std.specs.Prelude.{◌≡◌, ◌⊎◌, ℕ, List, Some, Bool, false, Result, Ok, Err, ⊤}
+use Rattle.std.specs.Prelude.{◌≡◌, ◌⊎◌, ℕ, List, Bool, false, Result, Ok, Err, ⊤}
 use Rattle.luks_writing.specs.TwoDevices.{CountsAfter}
 use Rattle.luks_commands.specs.declared.answers.Answer.{Answer}
 use Rattle.luks_commands.specs.declared.inputs.InputFault.{InputFault}
 use Rattle.luks_commands.specs.Answer.{unread_answer}
 use Rattle.luks_commands.specs.Reencrypting.{IsUnaskedMetadata}
-use Rattle.luks_commands.specs.Standing.{HasOther, HoldsBack, IsBar, IsClear, IsHeldBack}
+use Rattle.luks_commands.specs.Standing.{HoldsBack, IsBar, IsClear, IsHeldBack}
 use Rattle.luks_commands.specs.declared.standing.Bar.{Bar}
 use Rattle.luks_commands.specs.declared.standing.Bar.TheVariants as bar
+use Rattle.luks_reading.specs.Checked.{WellFormed}
 use Rattle.luks_reading.specs.Header.{NeedsMetadata}
+use Rattle.luks_reading.specs.declared.report.Data.TheVariants.{Elsewhere}
+use Rattle.luks_keeping.specs.SameVolume.{IsSameVolume}
 
 -- of two devices that are there: the bytes of the volume and of the target, and how many of their calls
 -- had failed before the command and after it
@@ -53,8 +56,9 @@ pub record IsWithoutRandom (tells : Type 0) (unread : InputFault → Type 0) (d 
   pub is : a ≡ unread_answer fault
 
 -- the target `t` has an accepted header that isn't of the same volume as that of `v`
-abbrev pub IsOtherTarget : List ℕ → List ℕ → Type 0
-IsOtherTarget v t = HasOther (Some v) t
+pub record IsOtherTarget (v t : List ℕ) : Type 0 where
+  pub formed : WellFormed t Elsewhere
+  pub other : IsSameVolume v t → ⊥
 
 -- what bars the command, unless it may write over that; memory is taken for the metadata of both
 abbrev pub IsTargetBar : Type 0 → Bool → List ℕ → List ℕ → Bar → Type 0

@@ -14,9 +14,10 @@ ghost use Rattle.luks_header_commands.specs.Target.{Pair, pair_of};
 
 use crate::progress::{DerivationProgress, Progress, SearchProgress};
 use luks_commands::{
-    Answer, Bar, Inputs, Refusal, Status, are_one_file, held_back, identity_there, judge_standing,
-    random_bytes, unread,
+    Answer, Bar, Inputs, Refusal, Status, are_one_file, bar_of, held_back, judge_standing, random_bytes,
+    unread,
 };
+use luks_keeping::are_of_one_volume;
 use luks_reading::Device;
 use luks_request::Place;
 use std::alloc::Global;
@@ -192,6 +193,8 @@ fn judge_target<D: Device>(
     if over {
         return Ok(());
     }
-    let own = identity_there(alloc, volume)?;
-    judge_standing(alloc, target, &own, over)
+    match are_of_one_volume(alloc, volume, target) {
+        Ok(is_own) => judge_standing(alloc, target, is_own, over),
+        Err(fault) => Err(bar_of(fault)),
+    }
 }

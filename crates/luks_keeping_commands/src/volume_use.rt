@@ -2,15 +2,14 @@
 ghost use Rattle.std.specs.Prelude.{◌≡◌, ◌+◌, ◌<◌, ◌^◌, IfErr, IfOk, OnOk, false};
 ghost use Rattle.luks_area.specs.Device.{CountsFailure, IsUnchanged};
 ghost use Rattle.luks_writing.specs.TwoDevices.{CountsEither};
-ghost use Rattle.luks_keeping.specs.RestoreFaults.{is_restore_failure};
 ghost use Rattle.luks_commands.specs.Standing.{is_bar_failure};
-ghost use Rattle.luks_commands.specs.Reencrypting.{IsFromOutside, IsReencrypting};
+ghost use Rattle.luks_commands.specs.Reencrypting.{IsReencrypting};
 ghost use Rattle.luks_keeping_commands.specs.Restoring.{IsReencryptionBar, IsRestoreBar, IsRestoreClear};
 ghost use Rattle.luks_keeping_commands.specs.Restoring.{IsSpared, IsUnspared, IsUseBar, IsUseClear};
 ghost use Rattle.luks_keeping_commands.specs.RestoringUnderway.{IsUnderwayUseBar, IsUnused};
 
-use luks_commands::{Bar, is_reencrypting, standing_use_of};
-use luks_keeping::{RestoreFault, counts_same_volume, read_outline};
+use luks_commands::{Bar, bar_of, is_reencrypting, standing_use_of};
+use luks_keeping::{counts_same_volume, read_outline};
 use luks_reading::{CheckFault, Data, Device};
 use luks_request::Restoring;
 use luks_wide_keeping::{Standing, standing_of};
@@ -114,18 +113,6 @@ fn is_spared<D: Device>(alloc: Global, backup: &mut D, volume: &mut D) -> Result
         Err(CheckFault::Head(_)) => Ok(true),
         Err(CheckFault::Meta(_)) => Ok(true),
         Err(CheckFault::Area(_)) => Ok(true),
-    }
-}
-
-/// Why it isn't told whether a header of the same volume counts: that a device failed, or else that memory
-/// was refused.
-fn bar_of(fault: RestoreFault) -> Bar
-    ensures same { is_bar_failure result ≡ is_restore_failure fault }
-    ensures kinds { IsFromOutside result }
-{
-    match fault {
-        RestoreFault::Device => Bar::Device,
-        _ => Bar::Memory,
     }
 }
 

@@ -1,4 +1,4 @@
-use Rattle.std.proofs.Common.{List, ℕ, None, sym, subst, ◌∙◌, inl, inr}
+use Rattle.std.proofs.Common.{List, ℕ, sym, subst, ◌∙◌, inl, inr}
 use Rattle.luks_area.proofs.DeviceFacts.{settled_unchanged}
 use Rattle.luks_commands.specs.Answer.{answer_status}
 use Rattle.luks_commands.specs.Files.{AreFirstBytes, IsWhole}
@@ -37,7 +37,7 @@ returns-clause-answers g c =
     let counted : HasRandom c.in-Ok-random_bytes.bytes = subst (λ n. HasCounted n c.in-Ok-random_bytes.bytes) c.random_needed.ensures c.in-Ok-random_bytes.ensures.taken in
     let taken : HasRandom c.as_slice-random.result.now = subst HasRandom (sym c.as_slice-random.ensures.value) counted in
     rw c.in-Ok-volume.is (inr (inr (record {
-      clear = λ tells. c.in-Ok-judge_standing.ensures.clear tells None tt;
+      clear = c.in-Ok-judge_standing.ensures.clear;
       passphrase = c.as_slice-words.result.now;
       words = words;
       key = c.slice_of.result;
@@ -57,7 +57,7 @@ pub returns-in-Err-judge_standing-clause-answers : goal.returns-in-Err-judge_sta
 returns-in-Err-judge_standing-clause-answers g c =
     rw c.in-Ok-volume.is (inr (inl (record {
       bar = c.in-Err-judge_standing.bar;
-      barred = c.in-Err-judge_standing.ensures.barred None (λ tells. tt);
+      barred = c.in-Err-judge_standing.ensures.barred;
       counted = c.in-Err-judge_standing.ensures.count;
       same = c.judge_standing.ensures.unchanged.same;
       is = c.held_back.ensures.answer;
