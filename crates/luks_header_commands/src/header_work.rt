@@ -14,8 +14,8 @@ ghost use Rattle.luks_header_commands.specs.Target.{Pair, pair_of};
 
 use crate::progress::{DerivationProgress, Progress, SearchProgress};
 use luks_commands::{
-    Answer, Bar, Inputs, Refusal, Status, are_one_file, bar_of, held_back, judge_standing, random_bytes,
-    unread,
+    Answer, Bar, Inputs, Refusal, Status, are_one_file, bar_of, held_back, judge_standing,
+    random_bytes, unread,
 };
 use luks_keeping::are_of_one_volume;
 use luks_reading::Device;

@@ -1,9 +1,9 @@
 -- The first fault of restoring a backup.
-use Rattle.std.proofs.Common.{◌≡◌, ℕ, Bool, List, length, true, false, refl, subst, arith, inl, inr}
-use Rattle.luks_area.specs.Device.{count_after}
+use Rattle.std.proofs.Common.{◌≡◌, ℕ, Bool, List, length, true, false, Result, Ok, Err, IfErr, refl, subst, arith, inl, inr}
+use Rattle.luks_area.specs.Device.{count_after, CountsFailure}
 use Rattle.luks_area.specs.First.{NotAfter}
 use Rattle.luks_writing.proofs.CountFacts.{one_failure}
-use Rattle.luks_writing.specs.TwoDevices.{CountsAfter, IsOneFailure}
+use Rattle.luks_writing.specs.TwoDevices.{CountsAfter, CountsEither, IsOneFailure}
 use Rattle.luks_reading.proofs.VolumeLaws.{well_formed_faultless}
 use Rattle.luks_reading.specs.Checked.{check_key, IsCheckRefusal, IsFault, WellFormed}
 use Rattle.luks_reading.specs.Failures.{is_check_failure}
@@ -12,7 +12,7 @@ use Rattle.luks_reading.specs.declared.check_fault.CheckFault.TheVariants as che
 use Rattle.luks_reading.specs.declared.report.Data.{Data}
 use Rattle.luks_reading.specs.declared.report.Data.TheVariants.{Elsewhere}
 use Rattle.luks_keeping.specs.Judged.{IsFaultOn, IsFormedOn}
-use Rattle.luks_keeping.specs.OtherHeaders.{IsOtherAnswer, IsUnfit}
+use Rattle.luks_keeping.specs.OtherHeaders.{IsOtherAnswer, IsUnfit, IsUntoldEither, IsUntoldSame}
 use Rattle.luks_keeping.specs.RestoreFaults.{checked_restore, is_restore_failure, restore_key, CanRestore, IsAnsweredRestore, IsKeptFrom, IsRestoreFault}
 use Rattle.luks_keeping.proofs.SoundFacts.{faultless_on}
 use Rattle.luks_keeping.specs.declared.over.Over.{Over}
@@ -87,3 +87,19 @@ counts_second false s t u w same e = (same, e)
 -- one of the two failed, and neither had before
 pub two_failures : {s t u v w x : ℕ} → t ≡ s → w ≡ v → IsOneFailure t u w x → IsOneFailure s u v x
 two_failures {t = t} {u = u} {v = v} {w = w} {x = x} first second one = one_failure first (subst (λ (n : ℕ). IsOneFailure t u n x) second one)
+
+pub counts_late : {X : Type 0} (r : Result X RestoreFault) (s t u w : ℕ) → t ≡ s → CountsFailure is_restore_failure r u w → CountsEither is_restore_failure r s t u w
+counts_late (Ok x) s t u w same count = (same, count)
+counts_late (Err f) s t u w same count = counts_second (is_restore_failure f) s t u w same count
+
+-- why it isn't told of two volumes whether they are one
+untold_second : (b t : List ℕ) (f : RestoreFault) → IsUntoldSame t f → IsUntoldEither b t f
+untold_second b t Memory x = inr x
+untold_second b t Device x = tt
+untold_second b t OtherVolume x = absurd x
+untold_second b t (NotAccepted f) x = absurd x
+untold_second b t (DoesNotFit f) x = absurd x
+
+pub untold_late : {X : Type 0} (b t : List ℕ) (r : Result X RestoreFault) → IfErr r (IsUntoldSame t) → IfErr r (IsUntoldEither b t)
+untold_late b t (Ok x) untold = untold
+untold_late b t (Err f) untold = untold_second b t f untold

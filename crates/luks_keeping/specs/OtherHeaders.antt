@@ -1,5 +1,5 @@
 -- What is told of the header that counts on a target: words of private contracts.
-use Rattle.std.specs.Prelude.{ℕ, List, ⊤}
+use Rattle.std.specs.Prelude.{◌⊎◌, ℕ, List, ⊤}
 use Rattle.luks_area.specs.First.{IsLeast}
 use Rattle.luks_area.specs.Ranges.{part}
 use Rattle.luks2_header.specs.Selection.{luks1, luks2, Choice}
@@ -51,3 +51,9 @@ abbrev pub IsUntoldSame : List ℕ → RestoreFault → Type 0
 IsUntoldSame t Memory = NeedsMetadata t
 IsUntoldSame t Device = ⊤
 IsUntoldSame t f = ⊥
+
+-- nor whether the headers of two volumes are of the same one
+abbrev pub IsUntoldEither : List ℕ → List ℕ → RestoreFault → Type 0
+IsUntoldEither b t Memory = NeedsMetadata b ⊎ NeedsMetadata t
+IsUntoldEither b t Device = ⊤
+IsUntoldEither b t f = ⊥

@@ -55,7 +55,7 @@ pub(crate) struct KeyRecord {
 /// The uuid and the digests of a header. It holds no metadata, so that one header's can be compared with
 /// another's while one of the two is read.
 #[derive(Drop)]
-pub struct Identity {
+pub(crate) struct Identity {
     /// The bytes of the uuid's field.
     pub(crate) uuid: [u8; 40],
     /// The digests of volume keys, by their numbers; the one of LUKS1 has 0.
@@ -65,7 +65,7 @@ pub struct Identity {
 }
 
 /// Those of this header.
-pub fn identity_of(header: &Header) -> Identity
+pub(crate) fn identity_of(header: &Header) -> Identity
     requires { IsAcceptedHeader header.now }
     ensures { IsIdentity header.now result }
 {

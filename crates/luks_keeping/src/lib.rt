@@ -34,7 +34,6 @@ pub use backup_fault::BackupFault;
 pub use comparing::compare;
 pub use comparing_areas::{are_alike, compare_areas};
 pub use comparison::{Comparison, Keeping};
-pub use identity::{Identity, identity_of};
 pub use laws::{
     kept_keyslots_answer_alike, kept_of_kept_is_kept, restored_backup_gives_back,
     sound_copies_begin,
@@ -46,5 +45,5 @@ pub use places::Places;
 pub use rescuing::rescue;
 pub use restore_fault::RestoreFault;
 pub use restoring::{restore, restore_header};
-pub use same_volume::{counts_same_volume, is_header_of, is_other_volume};
+pub use same_volume::{are_of_one_volume, counts_same_volume, is_other_volume};
 pub use writing_over::write_over;

@@ -1,8 +1,9 @@
 //! Whether the header that counts on a device is that of another volume.
 ghost use Rattle.std.specs.Prelude.{◌≡◌, ◌↔◌, ◌+◌, ◌^◌, ◌<◌, List, ℕ, IfErr, IfOk, IsTrue, OnOk};
 ghost use Rattle.luks_area.specs.Device.{CountsFailure, IsUnchanged};
+ghost use Rattle.luks_writing.specs.TwoDevices.{CountsEither};
 ghost use Rattle.luks_reading.specs.Header.{IsAcceptedHeader, IsHeader};
-ghost use Rattle.luks_keeping.specs.OtherHeaders.{IsOtherAnswer, IsUntoldSame};
+ghost use Rattle.luks_keeping.specs.OtherHeaders.{IsOtherAnswer, IsUntoldEither, IsUntoldSame};
 ghost use Rattle.luks_keeping.specs.Outlines.{Outlines};
 ghost use Rattle.luks_keeping.specs.RestoreFaults.{IsKeptFrom, is_restore_failure};
 ghost use Rattle.luks_keeping.specs.SameKeys.{Identifies};
@@ -26,7 +27,7 @@ pub fn is_other_volume(backup: &Outline, volume: &Outline) -> bool
 }
 
 /// Whether this header, which was read, is of the same volume as the one of this identity.
-pub fn is_header_of(identity: &Identity, header: &Header) -> bool
+fn is_header_of(identity: &Identity, header: &Header) -> bool
     requires { IsAcceptedHeader header.now }
     ensures { (b t : List ℕ) → Identifies b identity.now → IsHeader t header.now
         → (IsTrue result ↔ IsSameVolume b t) }
@@ -52,6 +53,55 @@ pub fn counts_same_volume<T: Device>(
     ensures fault { T.tells → IfErr result (IsUntoldSame (T.bytes device.old)) }
 {
     counts_same(alloc, &backup.identity, device)
+}
+
+/// Whether the headers that count on two devices are both accepted, and of the same volume.
+///
+/// Takes memory for the metadata of both, of one after the other.
+pub fn are_of_one_volume<S: Device, T: Device>(
+    alloc: Global,
+    source: &mut S,
+    target: &mut T,
+) -> Result<bool, RestoreFault>
+    requires source_room { S.failed source.old + 1 < 2 ^ 64 }
+    requires target_room { T.failed target.old + 1 < 2 ^ 64 }
+    ensures kept { IsUnchanged S.tells S.size S.bytes S.unsettled source.old source.new }
+    ensures unchanged { IsUnchanged T.tells T.size T.bytes T.unsettled target.old target.new }
+    ensures count { CountsEither is_restore_failure result (S.failed source.old)
+        (S.failed source.new) (T.failed target.old) (T.failed target.new) }
+    ensures same { S.tells → T.tells → IfOk result (λ same.
+        IsTrue same ↔ IsSameVolume (S.bytes source.old) (T.bytes target.old)) }
+    ensures fault { S.tells → T.tells → IfErr result
+        (IsUntoldEither (S.bytes source.old) (T.bytes target.old)) }
+{
+    match read_header(alloc, source) {
+        Ok(header) => counts_beside(alloc, header, target),
+        Err(ReadFault::Head(_)) => Ok(false),
+        Err(ReadFault::Meta(_)) => Ok(false),
+        Err(ReadFault::Device) => Err(RestoreFault::Device),
+        Err(ReadFault::Memory) => Err(RestoreFault::Memory),
+    }
+}
+
+/// Whether a header counts on the device that is accepted, and of the same volume as this one. This one's metadata is
+/// given up before that is read.
+fn counts_beside<T: Device>(
+    alloc: Global,
+    header: Header,
+    device: &mut T,
+) -> Result<bool, RestoreFault>
+    requires room { T.failed device.old + 1 < 2 ^ 64 }
+    requires accepted { IsAcceptedHeader header }
+    ensures unchanged { IsUnchanged T.tells T.size T.bytes T.unsettled device.old device.new }
+    ensures count { CountsFailure is_restore_failure result
+        (T.failed device.old) (T.failed device.new) }
+    ensures counts { T.tells → (b : List ℕ) → IsHeader b header
+        → IfOk result (λ counts. IsTrue counts ↔ IsSameVolume b (T.bytes device.old)) }
+    ensures fault { T.tells → IfErr result (IsUntoldSame (T.bytes device.old)) }
+{
+    let identity = identity_of(&header);
+    drop(header);
+    counts_same(alloc, &identity, device)
 }
 
 /// Whether a header counts on the device that is accepted, and of the same volume as the one of this identity.

@@ -94,13 +94,13 @@ fn of_other_volumes(rt: HostRuntime) -> Result<(), Fail> {
     assert!(rt; !same_key, "another uuid, the same digest");
     let same_uuid = is_other(rt.alloc(), &image, &other_hash)?;
     assert!(rt; same_uuid, "the same uuid, another digest");
-    let luks2 = small2(rt.alloc(), HashName::Sha256)?;
     let mut of_luks1 = image.to_vec(rt.alloc())?;
     // the iterations of the digest
     put(&mut of_luks1, 164, b"\0\0\x04\0");
     let iterations = is_other(rt.alloc(), &image, &of_luks1)?;
     assert!(rt; iterations, "the same digest and salt, other iterations");
-    let converted = is_other(rt.alloc(), &image, &luks2)?;
+    let luks1 = small1(rt.alloc(), HashName::Sha1)?;
+    let converted = is_other(rt.alloc(), &luks1, &small2(rt.alloc(), HashName::Sha1)?)?;
     assert!(rt; !converted, "LUKS1 and LUKS2 of one digest");
     Ok(())
 }
