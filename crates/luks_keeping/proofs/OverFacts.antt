@@ -150,3 +150,7 @@ zeros_cleared places w size room zeros = record {
     front at n inside =
         let start : 0 + at ≡ at = omega arith in
         ap (λ k. part w k n) (sym start) ∙ sym (part-part w 0 size at n inside) ∙ ap (λ l. part l at n) zeros ∙ part-replicate at n size inside
+
+-- what has changed since it was read
+pub since : {touched : ℕ → Type 0} {u v w : List ℕ} → v ≡ u → SameBut touched v w → SameBut touched u w
+since {touched = touched} {w = w} same rest = subst (λ (l : List ℕ). SameBut touched l w) same rest

@@ -56,6 +56,22 @@ pub(crate) fn clear_places<T: Device>(
     Ok(())
 }
 
+/// Reads what begins at each of these places that ends before `limit`. Nothing is written: so a place that can't be read
+/// is known before anything is.
+pub(crate) fn read_places<T: Device>(target: &mut T, limit: u64) -> Result<(), DeviceFault>
+    requires within { limit ≤ T.size target.old }
+    requires room { T.failed target.old + 1 < 2 ^ 64 }
+    ensures unchanged { IsUnchanged T.tells T.size T.bytes T.unsettled target.old target.new }
+    ensures count { CountsFailure is_failure result (T.failed target.old) (T.failed target.new) }
+{
+    let mut left = SECTORS.min(limit / SECTOR);
+    while left > 0 {
+        left -= 1;
+        is_to_clear(target, Which::EachCopy, left * SECTOR)?;
+    }
+    Ok(())
+}
+
 /// Clears the first sector at `at`, if it is such a place.
 fn clear_place<T: Device>(
     target: &mut T,

@@ -9,7 +9,7 @@ ghost use Rattle.luks_keeping.specs.SecondPlaces.{AreZeros, IsOfCopies};
 use crate::copying::copy_places;
 use crate::erasing::erase;
 use crate::places::Places;
-use crate::second_places::{Which, clear_places};
+use crate::second_places::{Which, clear_places, read_places};
 use luks_area::{Area, Device, DeviceFault, SECTOR};
 
 /// Clears the first sectors of both copies' places, and of each older copy that begins before `limit`, and
@@ -50,8 +50,8 @@ pub fn write_over<S: Device, T: Device>(
     copy_places(source, target, places)
 }
 
-/// Clears the first sector of the first copy's place, then those of older copies, then that of the second
-/// copy's place, a flush after each.
+/// Reads where older copies may begin, and clears the first sector of the first copy's place, then those of older
+/// copies, then that of the second copy's place, a flush after each.
 fn clear<T: Device>(target: &mut T, places: &Places, limit: u64) -> Result<(), DeviceFault>
     requires limit { limit ≤ T.size target.old }
     requires within { header_end places.now ≤ T.size target.old }
@@ -68,6 +68,7 @@ fn clear<T: Device>(target: &mut T, places: &Places, limit: u64) -> Result<(), D
     ensures order { T.tells
         → ClearsInTurn places.now (T.bytes target.old) (T.bytes target.new) }
 {
+    read_places(target, limit)?;
     let first = Area {
         start: 0,
         len: sector_within(places.first),
