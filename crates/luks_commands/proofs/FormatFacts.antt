@@ -1,5 +1,5 @@
 -- What formatting leaves of a volume, by how it ended.
-use Rattle.std.proofs.Common.{◌≡◌, ◌≢◌, ℕ, ◌+◌, List, Option, Bor, Some, None, Result, Ok, Err, refl, sym, ap, subst, ◌∙◌, IfErr, OnOk, inl, inr, arith}
+use Rattle.std.proofs.Common.{◌≡◌, ◌≢◌, ℕ, ◌+◌, List, Option, Bor, Some, None, false, Result, Ok, Err, refl, sym, ap, subst, ◌∙◌, IfErr, OnOk, inl, inr, arith}
 use Rattle.luks_area.specs.Device.{IsUnchanged}
 use Rattle.luks_area.proofs.RangeFacts.{same_but-same}
 use Rattle.luks_area.specs.Ranges.{SameBut}

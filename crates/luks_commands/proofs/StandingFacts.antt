@@ -6,11 +6,9 @@ use Rattle.luks2_header.specs.Selection.{nothing, luks1, luks2, IsSelected}
 use Rattle.luks2_header.specs.declared.selection.Selected.{Selected}
 use Rattle.luks2_header.specs.declared.selection.Selected.TheVariants.{V1, V2}
 use Rattle.luks_reading.specs.Checked.{IsCheckRefusal, WellFormed}
-use Rattle.luks_reading.specs.Header.{IsHeader}
 use Rattle.luks_reading.specs.Reported.{IsFromOutside}
 use Rattle.luks_reading.specs.declared.check_fault.CheckFault.{CheckFault}
 use Rattle.luks_reading.specs.declared.check_fault.CheckFault.TheVariants as check
-use Rattle.luks_reading.specs.declared.header.Header.{Header}
 use Rattle.luks_reading.specs.declared.report.Data.TheVariants.{Elsewhere}
 use Rattle.luks_reading.proofs.CheckFacts.{outside}
 use Rattle.luks_reading.proofs.VolumeLaws.{well_formed_faultless}

@@ -1,5 +1,5 @@
 -- What each command promises of its files and of its answer.
-use Rattle.std.specs.Prelude.{◌⊎◌, ◌≡◌, ℕ, List, None, Option, IfOk, ⊤}
+use Rattle.std.specs.Prelude.{◌⊎◌, ◌≡◌, ℕ, List, Option, false, IfOk, ⊤}
 use Rattle.luks_area.specs.declared.device.Device.{Ghosts as Device}
 use Rattle.luks_reading.specs.declared.report.Data.{Data}
 use Rattle.luks_request.specs.declared.keeping.BackingUp.{BackingUp}

@@ -702,9 +702,9 @@ byte 32768 of TARGET on; then the second copy of the header, and the first. No
 other byte is. The salts are the first 128 bytes of the random file, and no more
 are read. Give it /dev/urandom.
 
-Where TARGET has a LUKS header that check accepts, if only with --detached, and
-that isn't of the same volume as SOURCE, with another volume key, or another
-use, as a file system or a partition table, nothing is written but with --over.
+Where TARGET has a LUKS header with another uuid than SOURCE that check accepts,
+if only with --detached, or another use, as a file system or a partition table,
+nothing is written but with --over.
 
 Prints one line:
   done           the header is made; standard error tells how cryptsetup opens
@@ -775,8 +775,8 @@ No other byte is. Salts and a new uuid of LUKS2 are the first 144 bytes of the
 random file, and no more are read. Give it /dev/urandom.
 
 Where TARGET has a LUKS header that check accepts, if only with --detached, and
-no header counts on SOURCE, or one with another volume key, or another use, as a
-file system or a partition table, nothing is written but with --over.
+no header counts on SOURCE or one with another uuid, or another use, as a file
+system or a partition table, nothing is written but with --over.
 
 Prints one line:
   done           the header is made; standard error tells how cryptsetup opens

@@ -104,16 +104,15 @@ that was added since is gone, and one that was removed comes back. Before that
 standard error says which keyslots these are.
 
 What stands on VOLUME is written over, but the header of another volume, one
-that counts and has another volume key, whatever its uuid is, with --other or
---over alone: a backup from before a reencryption is such a one, too; another
-use of the disk, as a file system or a partition table, where no header of the
-same volume counts, with --over alone; and the metadata of a reencryption that
-isn't finished with --over-reencryption alone, of LUKS2 with --other beside it:
-what was reencrypted already can't be read then. A backup that was made in the
-midst of one isn't put back where that went on since, or ended, but with --over.
-Written are, with a flush after each: zeros over the first 512 bytes of the
-header's place, and of those where an older second copy begins; the key areas;
-of LUKS2 the second copy of the header; the first one, or the only one.
+that counts and has another uuid and another digest of the volume key, with
+--other or --over alone; another use of the disk, as a file system or a
+partition table, where no header of the same volume counts, with --over alone;
+and the metadata of a reencryption that isn't finished with --over-reencryption
+alone: what was reencrypted already can't be read then. A backup that was made
+in the midst of one isn't put back where that went on since, or ended, but with
+--over. Written are, with a flush after each: zeros over the first 512 bytes of
+the header's place, and of those where an older second copy begins; the key
+areas; of LUKS2 the second copy of the header; the first one, or the only one.
 
 Prints one line:
   done           the backup is restored
@@ -154,9 +153,9 @@ Prints a line, and then one for each keyslot of either:
 or:
   refused FAULT      SameFile (FILE is VOLUME), NotAccepted(FAULT) (check
                      --detached refuses FILE by that), what check refuses of
-                     VOLUME, OtherVolume (the volume key is another, as of a
-                     backup from before a reencryption), or Progressed (FILE
-                     was made in the midst of one, which went on since)
+                     VOLUME, OtherVolume (the uuid and the digest of the
+                     volume key are other ones), or Progressed (FILE was made
+                     in the midst of a reencryption, which went on since)
   device fault       a file can't be read
   no memory          memory was refused
 
