@@ -160,7 +160,10 @@ fn has_other<D: Device>(alloc: Global, device: &mut D, is_own: bool) -> Result<b
     ensures fault { IfErr result (IsUnasked D.tells (D.bytes device.old)) }
 {
     match accepted_header(alloc, device, Data::Elsewhere) {
-        Ok(_) => Ok(!is_own),
+        Ok(header) => {
+            drop(header);
+            Ok(!is_own)
+        }
         Err(CheckFault::Device) => Err(Bar::Device),
         Err(CheckFault::Memory) => Err(Bar::Memory),
         Err(CheckFault::Head(_)) => Ok(false),
