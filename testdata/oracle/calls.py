@@ -1,4 +1,4 @@
-"""What the lines of `tests/vectors/calls` owe that call the library on a whole volume: `reader.py`, `edits.py`, `formatting.py` and
+"""What the lines of the vectors of calls, which are still to be proved owe that call the library on a whole volume: `reader.py`, `edits.py`, `formatting.py` and
 `converting.py` answer them. `vectors` has the other lines."""
 import converting
 import edits

@@ -1,1 +1,3 @@
+pub mod Differing
+pub mod Losing
 pub mod Numbers

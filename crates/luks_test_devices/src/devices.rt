@@ -1,37 +1,21 @@
-//! Devices of the lines of vectors.
-ghost use Rattle.std.specs.Prelude.{◌+◌, ◌<◌, ◌≤◌, ◌^◌, IsTrue, length};
+//! Devices of the tests.
+ghost use Rattle.std.specs.Prelude.{◌<◌, ◌^◌};
 
-use crate::bytes::put;
-use luks_area::{Device, DeviceFault};
+use crate::bytes::old_bytes;
+use luks_area::{Device, DeviceFault, MemDevice};
+use std::alloc::{AllocError, Global};
 
-/// A disk of which only the front is kept: a call that reaches beyond it fails.
+/// A disk of which the front alone is kept: bytes beyond it are zeros, a write that reaches beyond it
+/// is only counted, and no call fails.
 #[derive(Drop)]
 pub struct Front {
     /// What is kept.
-    pub bytes: Vec<u8>,
+    pub front: MemDevice,
     /// The length of the disk.
-    len: u64,
-    failures: u64,
+    pub len: u64,
+    /// How many writes reached beyond the front.
+    pub beyond: u64,
     ghost fits: { len < 2 ^ 64 },
-}
-
-impl Front {
-    /// A disk of which these bytes are kept. It has so many bytes, or as many as are kept if that is more.
-    pub fn new(bytes: Vec<u8>, len: u64) -> Front {
-        let len = len.max(bytes.len() as u64);
-        Front {
-            bytes,
-            len,
-            failures: 0,
-        }
-    }
-
-    /// Whether so many bytes from a place on are kept.
-    fn has(&self, at: u64, len: usize) -> bool
-        ensures { IsTrue result → at + len ≤ length self.now.bytes.items }
-    {
-        at <= self.bytes.len() as u64 && len <= self.bytes.len() - at as usize
-    }
 }
 
 impl Device for Front {
@@ -45,33 +29,30 @@ impl Device for Front {
 
     ghost size = { λ d. d.len };
 
-    ghost failed = { λ d. d.failures };
+    ghost failed = { λ _. 0 };
 
     fn len(&self) -> u64 {
         self.len
     }
 
     fn failures(&self) -> u64 {
-        self.failures
+        0
     }
 
     fn read_at(&mut self, at: u64, into: &mut [u8]) -> Result<(), DeviceFault> {
-        if self.has(at, into.len()) {
-            let at = at as usize;
-            into.copy_from_slice(&self.bytes[at..at + into.len()]);
-            return Ok(());
+        if at + into.len() as u64 <= self.front.len() {
+            return self.front.read_at(at, into);
         }
-        self.failures += 1;
-        Err(DeviceFault)
+        into.fill(0);
+        Ok(())
     }
 
     fn write_at(&mut self, at: u64, from: &[u8]) -> Result<(), DeviceFault> {
-        if self.has(at, from.len()) {
-            put(&mut self.bytes, at as usize, from);
-            return Ok(());
+        if at + from.len() as u64 <= self.front.len() {
+            return self.front.write_at(at, from);
         }
-        self.failures += 1;
-        Err(DeviceFault)
+        self.beyond = self.beyond.saturating_add(1);
+        Ok(())
     }
 
     fn flush(&mut self) -> Result<(), DeviceFault> {
@@ -83,22 +64,38 @@ impl Device for Front {
     ghost bounded = { λ d. d.fits };
 }
 
+/// The bytes of a target that are kept: those of a small volume are all written before them.
+pub const KEPT: usize = 98304;
+
+/// A disk of so many bytes, of which these alone are kept.
+pub fn front_of(bytes: Vec<u8>, len: u64) -> Front {
+    Front {
+        front: MemDevice::new(bytes),
+        len,
+        beyond: 0,
+    }
+}
+
+/// A target of so many bytes, of which the first alone are kept.
+pub fn target(alloc: Global, len: u64) -> Result<Front, AllocError> {
+    Ok(front_of(old_bytes(alloc, KEPT)?, len))
+}
+
 /// A call of a device.
 #[derive(Clone, Copy, PartialEq, Eq)]
 pub enum Call {
-    /// A read of so many bytes from the place `at` on.
-    Read { at: u64, len: usize },
-    /// A write likewise.
-    Write { at: u64, len: usize },
+    Read,
+    /// A write from the place `at` on, of so many bytes.
+    Write { at: usize, len: usize },
     Flush,
 }
 
 impl Call {
-    /// The place and the length of what it writes; zeros for another call.
+    /// The place and the length of what it writes; of another call zeros.
     pub fn range(self) -> (usize, usize) {
         match self {
-            Call::Write { at, len } => (at as usize, len),
-            Call::Read { .. } | Call::Flush => (0, 0),
+            Call::Write { at, len } => (at, len),
+            Call::Read | Call::Flush => (0, 0),
         }
     }
 }
@@ -110,8 +107,6 @@ pub struct Recording<D: Device> {
     pub device: D,
     /// The calls that read, write or flush it.
     pub calls: Vec<Call>,
-    /// The bytes that were written, one write's behind another's, if they are to be kept.
-    pub written: Option<Vec<u8>>,
 }
 
 impl<D: Device> Device for Recording<D> {
@@ -134,17 +129,15 @@ impl<D: Device> Device for Recording<D> {
     }
 
     fn read_at(&mut self, at: u64, into: &mut [u8]) -> Result<(), DeviceFault> {
-        let len = into.len();
-        let _ = self.calls.push(Call::Read { at, len });
+        let _ = self.calls.push(Call::Read);
         self.device.read_at(at, into)
     }
 
     fn write_at(&mut self, at: u64, from: &[u8]) -> Result<(), DeviceFault> {
-        let len = from.len();
-        let _ = self.calls.push(Call::Write { at, len });
-        if let Some(written) = &mut self.written {
-            let _ = written.extend_from_slice(from);
-        }
+        let _ = self.calls.push(Call::Write {
+            at: at as usize,
+            len: from.len(),
+        });
         self.device.write_at(at, from)
     }
 

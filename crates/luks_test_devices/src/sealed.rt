@@ -28,13 +28,13 @@ pub fn key_area(alloc: Global, hash: HashName, passphrase: &[u8]) -> Result<Vec<
     Ok(area)
 }
 
-/// Encrypts the sectors, at most 16, numbered from 0.
-pub fn seal(key: &[u8], area: &mut [u8]) {
+/// Encrypts the sectors, numbered from 0.
+fn seal(key: &[u8; 64], area: &mut [u8]) {
     let Some(cipher) = XtsKey::new(key) else {
         return;
     };
     let mut left = area;
-    for n in 0..16 {
+    for n in 0..5 {
         match left.split_at_mut_checked(512) {
             Some((sector, later)) => {
                 cipher.seal_unit(n, sector);

@@ -92,9 +92,6 @@ fn stream_byte(at: u32) -> u8 {
 }
 
 fn repeated(alloc: Global, pattern: Pattern, len: u64) -> Result<Vec<u8>, AllocError> {
-    if let Pattern::Same(byte) = pattern {
-        return vec![in alloc; byte; len as usize];
-    }
     let mut bytes = Vec::new(alloc);
     for at in 0..len {
         bytes.push(pattern.byte(at))?;

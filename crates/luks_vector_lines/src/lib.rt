@@ -1,9 +1,10 @@
-//! Lines of vectors. Each line is a function and what it is given, and the program prints what the function gives. The
-//! program's file `stdout` has what every line owes, so that a new vector is a line of text, and no code to be proved.
+//! Lines of vectors, for the programs that answer them: each line is a function and what it is given,
+//! and what the program prints of it is what the function gives. What is owed stands in the program's
+//! file `stdout`, so that a further vector is a line of text and no code that is proved.
 //!
-//! An empty line, or one that begins with `#`, is printed as it is: it names the case and its source. The words of other lines
-//! are parted by single spaces. The first is the function's name; the comment of each function says which words follow. A
-//! malformed line ends the run, with its number.
+//! A line that is empty or begins with `#` is printed as it stands; it has the case and its source. The
+//! words of another are parted by single spaces: the first is the function's name, and what follows it
+//! stands above the function in the program. A malformed line ends the run, with its number.
 #![tactic(auto)]
 
 mod answers;

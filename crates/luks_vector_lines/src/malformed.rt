@@ -22,7 +22,7 @@ pub enum Malformed {
     /// A word is no number, or one that is too large.
     #[error("a word is no number in range")]
     Number,
-    /// A word isn't one of the names that are possible there.
+    /// A word is none of the names that may stand there.
     #[error("no such name")]
     Name,
     /// The function's contract doesn't allow what it is given.

@@ -17,8 +17,8 @@ pub fn blake2b(alloc: Global, words: &mut Words<'_>) -> Result<String, Malformed
     Ok(hex::encode(alloc, digest.as_slice())?)
 }
 
-/// `argon2 VARIANT LANES MEMORY TIME LEN PASSWORD SALT SECRET ASSOCIATED`: the tag of so many bytes, or the fault and the
-/// buffer for the tag, whose bytes were 7 before.
+/// `argon2 VARIANT LANES MEMORY TIME LEN PASSWORD SALT SECRET ASSOCIATED`: the tag of so many bytes, or
+/// the fault and the bytes that stand in the tag's place, which were 7 before.
 pub fn argon2(alloc: Global, memory: Memory, words: &mut Words<'_>) -> Result<String, Malformed> {
     let variant = variant_of(words.word()?)?;
     let costs = costs_of(words)?;

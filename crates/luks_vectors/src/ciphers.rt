@@ -42,30 +42,36 @@ pub fn xts(alloc: Global, words: &mut Words<'_>) -> Result<String, Malformed> {
     told(alloc, &sealed, opened.as_slice() == plain.as_slice())
 }
 
-/// `cbc IV KEY SECTOR BYTES`: what the key encrypts the sector of this number to, of whole blocks, by IVs of this kind, and
-/// whether it decrypts that back; `no key` if the key has another length. `cbc-run` with the same words: a run of sectors
-/// of 512 bytes, whose numbers are counted up.
-pub fn cbc(alloc: Global, is_run: bool, words: &mut Words<'_>) -> Result<String, Malformed> {
+/// `cbc IV KEY SECTOR BYTES`: what the key encrypts the sector of this number to, of whole blocks, by IVs
+/// of this kind, and whether it decrypts that back; `no key` where the key has another length.
+pub fn cbc(alloc: Global, words: &mut Words<'_>) -> Result<String, Malformed> {
     let key = cbc_key(alloc, words)?;
-    let first = words.number()?;
+    let sector = words.number()?;
     let plain = words.bytes(alloc)?;
+    demand(plain.len() % 16 == 0)?;
     let Some(key) = key else {
         return Ok(String::from_str(alloc, "no key")?);
     };
-    let mut sealed = plain.to_vec(alloc)?;
-    let opened = if is_run {
-        demand(plain.len() % 512 == 0)?;
-        key.seal_units(first, &mut sealed);
-        let mut opened = sealed.to_vec(alloc)?;
-        key.open_units(first, &mut opened);
-        opened
-    } else {
-        demand(plain.len() % 16 == 0)?;
-        key.seal_sector(first, &mut sealed);
-        let mut opened = sealed.to_vec(alloc)?;
-        key.open_sector(first, &mut opened);
-        opened
+    let mut sealed = plain.clone()?;
+    key.seal_sector(sector, &mut sealed);
+    let mut opened = sealed.clone()?;
+    key.open_sector(sector, &mut opened);
+    told(alloc, &sealed, opened.as_slice() == plain.as_slice())
+}
+
+/// `cbc-run IV KEY FIRST BYTES`: the same of a run of sectors of 512 bytes, whose numbers are counted up.
+pub fn cbc_run(alloc: Global, words: &mut Words<'_>) -> Result<String, Malformed> {
+    let key = cbc_key(alloc, words)?;
+    let first = words.number()?;
+    let plain = words.bytes(alloc)?;
+    demand(plain.len() % 512 == 0)?;
+    let Some(key) = key else {
+        return Ok(String::from_str(alloc, "no key")?);
     };
+    let mut sealed = plain.clone()?;
+    key.seal_units(first, &mut sealed);
+    let mut opened = sealed.clone()?;
+    key.open_units(first, &mut opened);
     told(alloc, &sealed, opened.as_slice() == plain.as_slice())
 }
 

@@ -3,8 +3,6 @@ use luks_kdf::{
     Blake2b512Fn, HashFn, HashName, KeyslotHash, OlderHash, Ripemd160Fn, Sha1Fn, Sha224Fn,
     Sha256Fn, Sha384Fn, Sha512Fn, WhirlpoolFn,
 };
-use luks_older_hashes::ripemd160::Ripemd160;
-use luks_older_hashes::whirlpool::Whirlpool;
 use luks_vector_lines::{Malformed, Words, demand};
 use std::alloc::Global;
 
@@ -32,28 +30,6 @@ fn digest<H: HashFn>(alloc: Global, message: &[u8]) -> Result<String, Malformed>
     state.feed(second);
     let mut digest = vec![in alloc; 0u8; H::LEN]?;
     state.finish(&mut digest);
-    Ok(hex::encode(alloc, digest.as_slice())?)
-}
-
-/// `ripemd160 MESSAGE`: the digest of the message, which is fed in two pieces.
-pub fn ripemd160(alloc: Global, words: &mut Words<'_>) -> Result<String, Malformed> {
-    let message = words.bytes(alloc)?;
-    let (first, second) = message.split_at(message.len() / 3);
-    let mut hasher = Ripemd160::new();
-    hasher.update(first);
-    hasher.update(second);
-    let digest = hasher.finalize();
-    Ok(hex::encode(alloc, digest.as_slice())?)
-}
-
-/// `whirlpool MESSAGE`: the digest of the message, which is fed in two pieces.
-pub fn whirlpool(alloc: Global, words: &mut Words<'_>) -> Result<String, Malformed> {
-    let message = words.bytes(alloc)?;
-    let (first, second) = message.split_at(message.len() / 3);
-    let mut hasher = Whirlpool::new();
-    hasher.update(first);
-    hasher.update(second);
-    let digest = hasher.finalize();
     Ok(hex::encode(alloc, digest.as_slice())?)
 }
 

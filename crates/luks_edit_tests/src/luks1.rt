@@ -1,0 +1,3 @@
+//! A list of edits of the small LUKS1 volume, by the model in testdata/oracle.
+
+pub(crate) mod table;
