@@ -1,6 +1,6 @@
-//! Tests of lists of edits of small volumes, beside the model in testdata/oracle. They stand here so that no
-//! crate is proved a second time for them. What each edit of the lists leaves, by each hash, stands in
-//! `luks_volume_transcript`.
+//! Tests of lists of edits of small volumes, beside the model in testdata/oracle. They are a crate of their own so
+//! that no other is proved a second time for them. The transcript `edits-lists` has what each edit leaves, by
+//! each hash.
 #![tactic(auto)]
 
 #[cfg(test)]
